@@ -1,0 +1,2 @@
+// Sets of marks, and the refusals of the whole module.
+pub mod refusal;
