@@ -1,0 +1,4 @@
+pub mod Decoding
+pub mod Spelling
+pub mod Answering
+pub mod Overlays

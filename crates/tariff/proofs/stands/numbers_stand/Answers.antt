@@ -1,0 +1,11 @@
+use Rattle.tariff.proofs.Decoding.{decode-encode, encode-decode}
+use Rattle.tariff.proofs.Spelling.{encode-spells, spells-encode}
+use Rattle.tariff.proofs.stands.numbers_stand.Needs as need
+
+pub returns : need.returns
+returns c = record {
+  spells = encode-spells;
+  only = λ n ds small bytes s. spells-encode n small ds bytes s;
+  back = decode-encode;
+  was = encode-decode;
+}

@@ -1,0 +1,5 @@
+pub mod Numbers
+pub mod Readings
+pub mod Faults
+pub mod Writings
+pub mod Laws
