@@ -1,12 +1,13 @@
 -- Sets of marks. A mark is a whole number that stands for one statement about a trip; a set says of each number whether it
 -- holds it. A width says how many marks are in use: those below it.
 use mathlib.Core.Bool.{Bool, true, false, cond, _||_, _&&_, not}
-use Prim.Native.Nat.{ℕ, zero, suc, _+_}
+use Prim.Native.Nat.{ℕ, zero, suc, _+_, _≤_, _<_}
 use lib.Dec.{T, eqb, ltb}
+use Rattle.std.specs.declared.option.Option.{Option}
+use Rattle.std.specs.declared.option.Option.the-variants.{None, Some}
 
 infix 50 _∈_ _⊆_
 infixl 60 _∪_ _∩_ _∖_
-
 abbrev pub Marks : Type 0
 Marks = ℕ → Bool
 
@@ -50,3 +51,14 @@ outside w S = below w ∖ S
 unfoldable pub size : ℕ → Marks → ℕ
 size zero S = 0
 size (suc w) S = size w S + cond (S w) 1 0
+
+-- m is the lowest mark of S at or after `from`
+pub record Lowest (S : Marks) (from m : ℕ) : Type 0 where
+  pub after : from ≤ m
+  pub held : m ∈ S
+  pub first : (k : ℕ) → from ≤ k → k < m → k ∈ S → ⊥
+
+-- the two answers to the question for the next mark of S at or after `from`: there is none, or it is the lowest
+abbrev pub Next : Marks → ℕ → Option ℕ → Type 0
+Next S from None = (k : ℕ) → from ≤ k → k ∈ S → ⊥
+Next S from (Some m) = Lowest S from m

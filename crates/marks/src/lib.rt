@@ -1,2 +1,3 @@
 // Sets of marks, and the refusals of the whole module.
 pub mod refusal;
+pub mod set;
