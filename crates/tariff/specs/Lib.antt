@@ -2,4 +2,5 @@ pub mod Numbers
 pub mod Readings
 pub mod Faults
 pub mod Writings
+pub mod Facts
 pub mod Laws

@@ -1,5 +1,6 @@
 // Numbers in the caller's bytes: read, tested and written.
 pub mod cursor;
+pub mod facts;
 pub mod fault;
 pub mod reader;
 pub mod stands;

@@ -1,0 +1,64 @@
+// Facts strings.
+ghost use mathlib.Core.Path.{_≡_};
+ghost use Prim.Native.Nat.{_+_, _*_, _-_, _<_, _≤_};
+ghost use lib.ListN.{length};
+ghost use Rattle.std.specs.Joined.{joined};
+ghost use Rattle.std.specs.Results.{Cases};
+ghost use Rattle.std.specs.Vec.{made};
+ghost use Rattle.std.specs.declared.result.Result.the-variants.{Ok, Err};
+ghost use Rattle.marks.specs.MarkSets.{marks-of, Is-set, Unchanged};
+ghost use Rattle.marks.specs.Sets.{no-marks, with-mark, size};
+ghost use Rattle.tariff.specs.Facts.{members, facts-bytes, adding, marks-at, facts-at, filled, Facts-are, Facts-fault, Facts-read};
+ghost use Rattle.tariff.specs.Numbers.{encode};
+ghost use Rattle.tariff.specs.Readings.{text, placed, mapped, number-at};
+ghost use Rattle.tariff.specs.Writings.{Written, Writes};
+use crate::cursor::Reader;
+use crate::fault::NumberFault;
+use crate::writer::number_size;
+use crate::writer::put_number;
+use marks::refusal::Refusal;
+use marks::set::MarkSet;
+
+// Reads the next mark of a list into the set. It must not lie below `least`.
+fn read_mark(reader: &mut Reader, set: &mut MarkSet, least: u16) -> Result<u16, NumberFault>
+    ensures same { λ _. ⌜ text (now (reader .exit)) ≡ text (now (reader .entry)) ⌝ }
+    ensures value { λ r. ⌜ placed r (now (reader .exit) .place) ≡ number-at 0 (now (set .entry) .width - 1) least (text (now (reader .entry))) (now (reader .entry) .place) ⌝ }
+    ensures set { λ r. ⌜ Cases r (λ m. (m < now (set .entry) .width) × Is-set (now (set .exit)) (now (set .entry) .width) (with-mark (marks-of (now (set .entry))) m)) (λ _. Unchanged (now (set .entry)) (now (set .exit))) ⌝ }
+{
+    let m = reader.step(0, set.width() - 1, least)?;
+    let _ = set.insert(m);
+    Ok(m)
+}
+
+// Reads so many marks into the set.
+fn read_marks(reader: &mut Reader, set: &mut MarkSet, count: u16) -> Result<(), NumberFault>
+    ensures same { λ _. ⌜ text (now (reader .exit)) ≡ text (now (reader .entry)) ⌝ }
+    ensures width { λ _. ⌜ now (set .exit) .width ≡ now (set .entry) .width ⌝ }
+    ensures value { λ r. ⌜ filled r (marks-of (now (set .exit))) (now (reader .exit) .place) ≡ mapped (adding (marks-of (now (set .entry)))) (marks-at (now (set .entry) .width) (text (now (reader .entry))) count 0 (now (reader .entry) .place)) ⌝ }
+{
+    let mut least = 0;
+    for _ in 0..count {
+        let m = read_mark(reader, set, least)?;
+        least = m + 1;
+    }
+    Ok(())
+}
+
+// Reads a whole facts string into the set, which holds no mark yet.
+fn read_string(bytes: &[u8], set: &mut MarkSet) -> Result<(), NumberFault>
+    requires { ⌜ marks-of (now set) ≡ no-marks ⌝ }
+    ensures width { λ _. ⌜ now (set .exit) .width ≡ now (set .entry) .width ⌝ }
+    ensures value { λ r. ⌜ filled r (marks-of (now (set .exit))) (length (now (bytes .entry))) ≡ facts-at (now (set .entry) .width) (now (bytes .entry)) ⌝ }
+{
+    let mut reader = Reader::new(bytes);
+    let count = reader.number(0, 512)?;
+    read_marks(&mut reader, set, count)?;
+    let byte = reader.place();
+    if byte < bytes.len() {
+        return Err(NumberFault {
+            refusal: Refusal::BytesRemain,
+            byte,
+        });
+    }
+    Ok(())
+}
