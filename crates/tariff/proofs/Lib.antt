@@ -2,4 +2,6 @@ pub mod Decoding
 pub mod Spelling
 pub mod Answering
 pub mod Overlays
+pub mod Members
 pub mod Runs
+pub mod Strings

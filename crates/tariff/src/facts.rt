@@ -62,3 +62,31 @@ fn read_string(bytes: &[u8], set: &mut MarkSet) -> Result<(), NumberFault>
     }
     Ok(())
 }
+
+// The set that the bytes are the facts string of, with the width of the old one.
+fn facts_of(bytes: &[u8], old: &MarkSet) -> Result<MarkSet, NumberFault>
+    ensures width { λ r. ⌜ made r (λ s. s .width ≡ now (old .entry) .width) ⌝ }
+    ensures value { λ r. ⌜ Cases r (λ s. Ok (marks-of s, length (now (bytes .entry))) ≡ facts-at (now (old .entry) .width) (now (bytes .entry))) (λ f. Err f ≡ facts-at (now (old .entry) .width) (now (bytes .entry))) ⌝ }
+    ensures says { λ r. ⌜ Cases r (λ s. Facts-are (now (old .entry) .width) (now (bytes .entry)) (marks-of s)) (λ f. Facts-fault (now (old .entry) .width) (now (bytes .entry)) f) ⌝ }
+{
+    let Ok(mut set) = MarkSet::empty(old.width()) else {
+        unreachable()
+    };
+    read_string(bytes, &mut set)?;
+    Ok(set)
+}
+
+// Reads a facts string into the set: it then holds exactly the string's marks, and keeps its width. Refused: the set is
+// what it was.
+pub fn read_facts(bytes: &[u8], facts: &mut MarkSet) -> Result<(), NumberFault>
+    ensures value { λ r. ⌜ filled r (marks-of (now (facts .exit))) (length (now (bytes .entry))) ≡ facts-at (now (facts .entry) .width) (now (bytes .entry)) ⌝ }
+    ensures says { λ r. ⌜ Facts-read (now (bytes .entry)) (now (facts .entry)) (now (facts .exit)) r ⌝ }
+{
+    match facts_of(bytes, facts) {
+        Ok(read) => {
+            *facts = read;
+            Ok(())
+        }
+        Err(fault) => Err(fault),
+    }
+}
