@@ -5,3 +5,4 @@ pub mod Overlays
 pub mod Members
 pub mod Runs
 pub mod Strings
+pub mod Turns

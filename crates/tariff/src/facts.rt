@@ -90,3 +90,59 @@ pub fn read_facts(bytes: &[u8], facts: &mut MarkSet) -> Result<(), NumberFault>
         Err(fault) => Err(fault),
     }
 }
+
+// How many bytes the marks of the set take.
+fn marks_size(facts: &MarkSet) -> usize
+    ensures exact { λ r. ⌜ r ≡ length (joined encode (members (now (facts .entry) .width) (marks-of (now (facts .entry))))) ⌝ }
+    ensures few { λ r. ⌜ r ≤ 3 * now (facts .entry) .width ⌝ }
+{
+    let mut total = 0;
+    let mut at = 0;
+    while let Some(m) = facts.next(at) {
+        total += number_size(m);
+        at = m + 1;
+    }
+    total
+}
+
+// How many bytes the facts string of the set takes.
+fn facts_size(facts: &MarkSet) -> usize
+    ensures { λ r. ⌜ r ≡ length (facts-bytes (now (facts .entry) .width) (marks-of (now (facts .entry)))) ⌝ }
+{
+    number_size(facts.count()) + marks_size(facts)
+}
+
+// Writes the marks of the set, ascending, from a place on where they have room, and answers the place behind them.
+fn put_marks(out: &mut [u8], place: usize, facts: &MarkSet) -> usize
+    requires { ⌜ place + length (joined encode (members (now facts .width) (marks-of (now facts)))) ≤ length (now out) ⌝ }
+    ensures { λ r. ⌜ Written (now (out .entry)) place (joined encode (members (now (facts .entry) .width) (marks-of (now (facts .entry))))) (now (out .exit)) r ⌝ }
+{
+    let mut end = place;
+    let mut at = 0;
+    while let Some(m) = facts.next(at) {
+        end = put_number(out, end, m);
+        at = m + 1;
+    }
+    end
+}
+
+// Writes the facts string of the set, which holds `count` marks, where it has room, and answers its length.
+fn put_facts(out: &mut [u8], count: u16, facts: &MarkSet) -> usize
+    requires count { ⌜ count ≡ size (now facts .width) (marks-of (now facts)) ⌝ }
+    requires room { ⌜ length (facts-bytes (now facts .width) (marks-of (now facts))) ≤ length (now out) ⌝ }
+    ensures { λ r. ⌜ Written (now (out .entry)) 0 (facts-bytes (now (facts .entry) .width) (marks-of (now (facts .entry)))) (now (out .exit)) r ⌝ }
+{
+    let place = put_number(out, 0, count);
+    put_marks(out, place, facts)
+}
+
+// Writes the facts string of the set at the start of the bytes and answers its length; the bytes behind it stay. Refused
+// where it has no room: no byte is changed.
+pub fn write_facts(facts: &MarkSet, out: &mut [u8]) -> Result<usize, Refusal>
+    ensures { λ r. ⌜ Writes (now (out .entry)) 0 (facts-bytes (now (facts .entry) .width) (marks-of (now (facts .entry)))) (now (out .exit)) r ⌝ }
+{
+    if out.len() < facts_size(facts) {
+        return Err(Refusal::OutputShort);
+    }
+    Ok(put_facts(out, facts.count(), facts))
+}

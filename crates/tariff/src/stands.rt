@@ -1,12 +1,14 @@
 // What is proved of the definitions themselves. These functions do nothing; each has a theorem for its contract.
-ghost use Rattle.tariff.specs.Laws.{Numbers-stand, Answers-stand};
+ghost use Rattle.tariff.specs.Laws.{Numbers-stand, Facts-stand};
 
-// The bytes of a number are its one shortest spelling; what was encoded decodes to itself, and what decodes was so encoded.
+// A number has one form, which reads back as it, and no other bytes are taken or refused than the words say.
 pub fn numbers_stand()
     ensures { λ _. ⌜ Numbers-stand ⌝ }
-{}
+{
+}
 
-// Of any bytes a reading of a number gives exactly what the words say.
-pub fn answers_stand()
-    ensures { λ _. ⌜ Answers-stand ⌝ }
-{}
+// A set of a width has one facts string, which reads back as it, and no other bytes are taken or refused than the words say.
+pub fn facts_stand()
+    ensures { λ _. ⌜ Facts-stand ⌝ }
+{
+}
