@@ -78,9 +78,9 @@ ascending-last w least (m ∷ ms) a =
     ⊎-elim
     (λ (e : m ≡ w). inr ([], ap₂ (λ (x : ℕ) (l : List ℕ). x ∷ l) e (none ms (a .2) e), tt))
     (λ (ne : m ≡ w → ⊥). ⊎-elim
-      (λ (b : Ascending w (m + 1) ms). inl (a .0, omega arith, b))
-      (λ (b : (xs : List ℕ) × (ms ≡ xs ++ w ∷ []) × Ascending w (m + 1) xs). inr (m ∷ b .0, ap (λ l. m ∷ l) (b .1), (a .0, omega arith, b .2)))
-      (ascending-last w (m + 1) ms (a .2)))
+    (λ (b : Ascending w (m + 1) ms). inl (a .0, omega arith, b))
+    (λ (b : (xs : List ℕ) × (ms ≡ xs ++ w ∷ []) × Ascending w (m + 1) xs). inr (m ∷ b .0, ap (λ l. m ∷ l) (b .1), (a .0, omega arith, b .2)))
+    (ascending-last w (m + 1) ms (a .2)))
     (cases-eq m w)
   where
     none : (ms : List ℕ) → Ascending (suc w) (m + 1) ms → m ≡ w → ms ≡ []
@@ -105,16 +105,16 @@ cut w S m = ltb m w && S m
 
 cut-more : (w : ℕ) (S : Marks) (b : Bool) → S w ≡ b → adding (cut w S) (cond b (w ∷ []) []) ≡ cut (suc w) S
 cut-more w S true e = fun-ext (λ m. ⊎-elim
-  (λ (h : m ≡ w). ap (λ k. eqb k w || cut w S k) h ∙ ap₂ (λ (x y : Bool). x || y) (eq-eqb w w refl) refl ∙ sym (ap (cut (suc w) S) h ∙ ap₂ (λ (x y : Bool). x && y) (lt-ltb w (suc w) (omega arith)) e))
-  (λ (h : m ≡ w → ⊥). ap₂ (λ (x y : Bool). x || y) (ne-eqb m w h) refl ∙ ap (λ x. x && S m) (same m h))
-  (cases-eq m w))
+    (λ (h : m ≡ w). ap (λ k. eqb k w || cut w S k) h ∙ ap₂ (λ (x y : Bool). x || y) (eq-eqb w w refl) refl ∙ sym (ap (cut (suc w) S) h ∙ ap₂ (λ (x y : Bool). x && y) (lt-ltb w (suc w) (omega arith)) e))
+    (λ (h : m ≡ w → ⊥). ap₂ (λ (x y : Bool). x || y) (ne-eqb m w h) refl ∙ ap (λ x. x && S m) (same m h))
+    (cases-eq m w))
   where
     same : (m : ℕ) → (m ≡ w → ⊥) → ltb m w ≡ ltb m (suc w)
     same m h = grind (arith, tells)
 cut-more w S false e = fun-ext (λ m. ⊎-elim
-  (λ (h : m ≡ w). ap (cut w S) h ∙ ap₂ (λ (x y : Bool). x && y) (le-ltb w w (omega arith)) refl ∙ sym (ap (cut (suc w) S) h ∙ ap₂ (λ (x y : Bool). x && y) (lt-ltb w (suc w) (omega arith)) e))
-  (λ (h : m ≡ w → ⊥). ap (λ x. x && S m) (same m h))
-  (cases-eq m w))
+    (λ (h : m ≡ w). ap (cut w S) h ∙ ap₂ (λ (x y : Bool). x && y) (le-ltb w w (omega arith)) refl ∙ sym (ap (cut (suc w) S) h ∙ ap₂ (λ (x y : Bool). x && y) (lt-ltb w (suc w) (omega arith)) e))
+    (λ (h : m ≡ w → ⊥). ap (λ x. x && S m) (same m h))
+    (cases-eq m w))
   where
     same : (m : ℕ) → (m ≡ w → ⊥) → ltb m w ≡ ltb m (suc w)
     same m h = grind (arith, tells)
@@ -130,9 +130,9 @@ adding-cut (suc w) S =
 -- the marks of a set make up the set
 pub adding-members : (w : ℕ) (S : Marks) → Of-width w S → adding no-marks (members w S) ≡ S
 adding-members w S inside = adding-cut w S ∙ fun-ext (λ m. ⊎-elim
-  (λ (h : m < w). ap (λ b. b && S m) (lt-ltb m w h))
-  (λ (h : w ≤ m). ap (λ b. b && S m) (le-ltb m w h) ∙ sym (past-width w S inside m h))
-  (cases-lt m w))
+    (λ (h : m < w). ap (λ b. b && S m) (lt-ltb m w h))
+    (λ (h : w ≤ m). ap (λ b. b && S m) (le-ltb m w h) ∙ sym (past-width w S inside m h))
+    (cases-lt m w))
 
 -- an ascending list is the marks of the set that it makes up
 pub members-adding : (w : ℕ) (ms : List ℕ) → Ascending w 0 ms → members w (adding no-marks ms) ≡ ms
@@ -142,12 +142,12 @@ members-adding zero (m ∷ ms) a = let h = a .1 in absurd (omega arith)
 members-adding (suc w) ms a =
     ⊎-elim
     (λ (b : Ascending w 0 ms).
-      ap₂ (λ (xs : List ℕ) (t : Bool). xs ++ cond t (w ∷ []) []) (members-adding w ms b) (past-width w (adding no-marks ms) (adding-inside w 0 no-marks ms (none-inside w) b) w (omega arith))
-      ∙ append-nil ms)
+    ap₂ (λ (xs : List ℕ) (t : Bool). xs ++ cond t (w ∷ []) []) (members-adding w ms b) (past-width w (adding no-marks ms) (adding-inside w 0 no-marks ms (none-inside w) b) w (omega arith))
+    ∙ append-nil ms)
     (λ (b : (xs : List ℕ) × (ms ≡ xs ++ w ∷ []) × Ascending w 0 xs).
-      let set : adding no-marks ms ≡ with-mark (adding no-marks (b .0)) w = ap (adding no-marks) (b .1) ∙ adding-append no-marks (b .0) (w ∷ []) in
-      let below : members w (adding no-marks ms) ≡ b .0 =
-      ap (members w) set ∙ members-same w (with-mark (adding no-marks (b .0)) w) (adding no-marks (b .0)) (λ k l. ap (λ x. x || adding no-marks (b .0) k) (ne-eqb k w (λ e. omega arith))) ∙ members-adding w (b .0) (b .2) in
-      let top : adding no-marks ms w ≡ true = ap (λ (X : Marks). X w) set ∙ ap (λ x. x || adding no-marks (b .0) w) (eq-eqb w w refl) in
-      ap₂ (λ (xs : List ℕ) (t : Bool). xs ++ cond t (w ∷ []) []) below top ∙ sym (b .1))
+    let set : adding no-marks ms ≡ with-mark (adding no-marks (b .0)) w = ap (adding no-marks) (b .1) ∙ adding-append no-marks (b .0) (w ∷ []) in
+    let below : members w (adding no-marks ms) ≡ b .0 =
+    ap (members w) set ∙ members-same w (with-mark (adding no-marks (b .0)) w) (adding no-marks (b .0)) (λ k l. ap (λ x. x || adding no-marks (b .0) k) (ne-eqb k w (λ e. omega arith))) ∙ members-adding w (b .0) (b .2) in
+    let top : adding no-marks ms w ≡ true = ap (λ (X : Marks). X w) set ∙ ap (λ x. x || adding no-marks (b .0) w) (eq-eqb w w refl) in
+    ap₂ (λ (xs : List ℕ) (t : Bool). xs ++ cond t (w ∷ []) []) below top ∙ sym (b .1))
     (ascending-last w 0 ms a)

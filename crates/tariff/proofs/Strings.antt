@@ -61,12 +61,16 @@ module _ (w : ℕ) (bs : List ℕ) where
       where
         here : drop p bs ≡ encode (x .0) ++ drop (x .1) bs
         here = h .stands .front ∙ ap (λ l. encode (x .0) ++ l) (sym (behind p (x .0) (x .1) (h .stands .rest) (h .stands .front) (h .behind)))
+
         low : x .0 < w
         low = let l = h .limit .1 in omega arith
+
         joins : (ms rest : List ℕ) → drop (x .1) bs ≡ joined encode ms ++ rest → drop p bs ≡ joined encode (x .0 ∷ ms) ++ rest
         joins ms rest e = here ∙ ap (λ l. encode (x .0) ++ l) e ∙ sym (append-assoc (encode (x .0)) (joined encode ms) rest)
+
         far : (ms : List ℕ) → x .1 + length (joined encode ms) ≡ p + length (joined encode (x .0 ∷ ms))
         far ms = omega (arith, h .behind, length-append (encode (x .0)) (joined encode ms))
+
         by-rest : (r : Result (List ℕ × ℕ) NumberFault) → Marks-answer n (x .0 + 1) (x .1) r → Marks-answer (suc n) least p (mapped (λ ms. x .0 ∷ ms) r)
         by-rest (Ok y) g = record {
           many = ap suc (g .many);
@@ -108,17 +112,16 @@ module _ (w : ℕ) (bs : List ℕ) where
           cond-both (ltb q (length bs)) _ _ (Facts-answer w bs)
           (λ e. left-over k ms q start (g .many) (ltb-true q (length bs) e) refl)
           (λ e.
-            let past : length bs ≤ q = ltb-false q (length bs) e in
-            let whole : bs ≡ encode k ++ joined encode ms = after-count ∙ ap (λ l. encode k ++ l) (g .front ∙ ap (λ l. joined encode ms ++ l) (drop-all q bs past) ∙ append-nil (joined encode ms)) in
-            let list = members-adding w ms (g .ascending) in
-            let count : k ≡ size w (adding no-marks ms) = sym (g .many) ∙ ap length (sym list) ∙ length-members w (adding no-marks ms) in
-            (
-              record {
-                inside = adding-inside w 0 no-marks ms (none-inside w) (g .ascending);
-                string = whole ∙ ap₂ (λ (n : ℕ) (l : List ℕ). encode n ++ joined encode l) count (sym list);
-              },
-              start .place ∙ ap length (sym whole),
-            ))
+          let past : length bs ≤ q = ltb-false q (length bs) e in
+          let whole : bs ≡ encode k ++ joined encode ms = after-count ∙ ap (λ l. encode k ++ l) (g .front ∙ ap (λ l. joined encode ms ++ l) (drop-all q bs past) ∙ append-nil (joined encode ms)) in
+          let list = members-adding w ms (g .ascending) in
+          let count : k ≡ size w (adding no-marks ms) = sym (g .many) ∙ ap length (sym list) ∙ length-members w (adding no-marks ms) in (
+            record {
+              inside = adding-inside w 0 no-marks ms (none-inside w) (g .ascending);
+              string = whole ∙ ap₂ (λ (n : ℕ) (l : List ℕ). encode n ++ joined encode l) count (sym list);
+            },
+            start .place ∙ ap length (sym whole),
+          ))
 
       by-marks : (r : Result (List ℕ × ℕ) NumberFault) → Marks-answer k 0 p r → Facts-answer w bs (and-then (mapped (adding no-marks) r) (ended bs))
       by-marks (Ok x) g = by-end (x .0) (x .1) g

@@ -26,6 +26,7 @@ fn read_mark(reader: &mut Reader, set: &mut MarkSet, least: u16) -> Result<u16, 
     ensures set { λ r. ⌜ Cases r (λ m. (m < now (set .entry) .width) × Is-set (now (set .exit)) (now (set .entry) .width) (with-mark (marks-of (now (set .entry))) m)) (λ _. Unchanged (now (set .entry)) (now (set .exit))) ⌝ }
 {
     let m = reader.step(0, set.width() - 1, least)?;
+    // it lies below the width, so the set takes it
     let _ = set.insert(m);
     Ok(m)
 }

@@ -71,21 +71,6 @@ fn number_at(
 }
 
 impl Reader<'_> {
-    // Stands at the first byte.
-    pub fn new<'b>(bytes: &'b [u8]) -> Reader<'b>
-        ensures bytes { λ r. ⌜ text r ≡ now (bytes .entry) ⌝ }
-        ensures place { λ r. ⌜ r .place ≡ 0 ⌝ }
-    {
-        Reader { bytes, place: 0 }
-    }
-
-    // The byte where the next number starts, or the end.
-    pub fn place(&self) -> usize
-        ensures { λ r. ⌜ r ≡ now (self .entry) .place ⌝ }
-    {
-        self.place
-    }
-
     // Reads the number that starts at the place, which must lie from `low` to `high`, and goes behind it. Refused: it
     // stays where it is.
     pub fn number(&mut self, low: u16, high: u16) -> Result<u16, NumberFault>

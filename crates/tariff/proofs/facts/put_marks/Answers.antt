@@ -27,7 +27,7 @@ loop-m-again c =
     let within = c .in-Some .ensures tt .within in (
       omega arith,
       subst (λ l. Written (c .args .out .now) (c .args .place) l (c .put-number-end .last .out) (c .put-number-end .result)) (sym (bytes-next S (c .loop-m .at) (c .in-Some .m) low))
-      (written-more (c .args .out .now) (c .args .place) (mark-bytes (c .loop-m .at) S) (encode (c .in-Some .m)) (omega (arith, c .pre)) (c .loop-m .inv .1) (c .put-number-end .ensures)),
+          (written-more (c .args .out .now) (c .args .place) (mark-bytes (c .loop-m .at) S) (encode (c .in-Some .m)) (omega (arith, c .pre)) (c .loop-m .inv .1) (c .put-number-end .ensures)),
     )
 
 pub returns : need.returns

@@ -39,8 +39,8 @@ loop-again c =
       here .same ∙ inv .0,
       set .width ∙ inv .1,
       inv .2
-      ∙ adding-more (c .args .set .now .width) (text (c .args .reader .now)) (c .args .count) (c .loop .counter) (c .loop .least) (c .loop .reader .place) (marks-of (c .loop .set)) (c .in-Continue-m .m) (c .read-mark .last .reader .place) (c .loop-test .taken) found
-      ∙ ap (λ S. mapped (adding S) (marks-at (c .args .set .now .width) (text (c .args .reader .now)) (c .args .count - (c .loop .counter + 1)) (c .in-Continue-m .m + 1) (c .read-mark .last .reader .place))) (sym (set .marks)),
+          ∙ adding-more (c .args .set .now .width) (text (c .args .reader .now)) (c .args .count) (c .loop .counter) (c .loop .least) (c .loop .reader .place) (marks-of (c .loop .set)) (c .in-Continue-m .m) (c .read-mark .last .reader .place) (c .loop-test .taken) found
+          ∙ ap (λ S. mapped (adding S) (marks-at (c .args .set .now .width) (text (c .args .reader .now)) (c .args .count - (c .loop .counter + 1)) (c .in-Continue-m .m + 1) (c .read-mark .last .reader .place))) (sym (set .marks)),
     )
 
 pub returns : need.returns

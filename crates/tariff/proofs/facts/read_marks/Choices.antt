@@ -10,4 +10,4 @@ abbrev pub Inv-loop : given.InvT-loop
 Inv-loop l =
     (text (l .reader) ≡ text (l .entry .reader)) × (l .set .width ≡ l .entry .set .width)
     × (mapped (adding (marks-of (l .entry .set))) (marks-at (l .entry .set .width) (text (l .entry .reader)) (l .count) 0 (l .entry .reader .place))
-      ≡ mapped (adding (marks-of (l .set))) (marks-at (l .entry .set .width) (text (l .entry .reader)) (l .count - l .counter) (l .least) (l .reader .place)))
+    ≡ mapped (adding (marks-of (l .set))) (marks-at (l .entry .set .width) (text (l .entry .reader)) (l .count - l .counter) (l .least) (l .reader .place)))
