@@ -1,5 +1,5 @@
 -- A reading of a number gives what is right to answer, and nothing else is right.
-use mathlib.Core.Path.{_≡_, refl, sym, ap, subst, _∙_}
+use mathlib.Core.Path.{_≡_, refl, sym, ap, _∙_}
 use mathlib.Core.Logic.{_⊎_, inl, inr, ⊎-elim}
 use mathlib.Core.List.{List, [], _∷_, _++_}
 use Prim.Native.Nat.{ℕ, _+_, _-_, _*_, _%_, _<_, _≤_}
@@ -9,14 +9,14 @@ use lib.ListN.{length, drop}
 use Rattle.std.specs.declared.result.Result.{Result}
 use Rattle.std.specs.declared.result.Result.the-variants.{Ok, Err}
 use Rattle.std.proofs.shelf.Elements.{all-drop}
-use Rattle.std.proofs.shelf.Tests.{cond-both, cond-true, cond-false, ltb-true, ltb-false, eqb-true, eqb-false, cases-lt}
+use Rattle.std.proofs.shelf.Tests.{cond-both, cond-true, cond-false, ltb-true, ltb-false, eqb-true, cases-lt}
 use Rattle.std.proofs.shelf.Ways.{tells}
 use Rattle.marks.specs.declared.refusal.Refusal.{Refusal}
 use Rattle.marks.specs.declared.refusal.Refusal.the-variants.{BytesEnd, Malformed, OutsideLimit, NotAscending, FewRecords, BytesRemain, Width, Record, MarkTooHigh, FactStands, NoSuchFact, NotSettled, OutputShort}
 use Rattle.tariff.specs.declared.fault.NumberFault.{NumberFault}
 use Rattle.tariff.specs.Numbers.{Bytes, spelled, Finished, encode, Begins}
 use Rattle.tariff.specs.Readings.{second, third, decode, fault, tested, number-at}
-use Rattle.tariff.specs.Faults.{Unfinished, Too-long, Shorter-form, Misspelled, Outside, Within, Fails, Fault-is, Number-is, Number-answer}
+use Rattle.tariff.specs.Faults.{Unfinished, Too-long, Shorter-form, Misspelled, Outside, Within, Fails, Number-answer}
 use Rattle.tariff.proofs.Decoding.{decode-encode, encode-decode}
 
 module _ (low high least : ℕ) where

@@ -1,8 +1,9 @@
 pub mod Decoding
 pub mod Spelling
 pub mod Answering
-pub mod Overlays
-pub mod Members
 pub mod Runs
+pub mod Members
+pub mod Listing
 pub mod Strings
+pub mod Overlays
 pub mod Turns

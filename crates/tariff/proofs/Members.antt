@@ -7,14 +7,15 @@ use Prim.Native.Nat.{ℕ, zero, suc, _+_, _-_, _<_, _≤_}
 use native.Mathlib.Nat.{add-zero, add-suc}
 use native.Mathlib.Numerals.{add-one}
 use native.Mathlib.Omega.{arith}
-use lib.Dec.{T, eqb, ltb, ltb→lt}
+use lib.Dec.{eqb, ltb}
 use lib.ListN.{length, length-append}
 use Rattle.std.proofs.shelf.Lists.{append-nil}
-use Rattle.std.proofs.shelf.Tests.{cond-both, cases-eq, cases-bool, cases-lt, eq-eqb, ne-eqb, lt-ltb, le-ltb}
+use Rattle.std.proofs.shelf.Tests.{cond-both, cases-eq, cases-lt, eq-eqb, ne-eqb, lt-ltb, le-ltb}
 use Rattle.std.proofs.shelf.Ways.{tells}
 use Rattle.marks.specs.Sets.{Marks, _∈_, Of-width, no-marks, with-mark, size, Lowest}
 use Rattle.marks.proofs.Sets.{is-true, is-false, past-width, with-inside}
-use Rattle.tariff.specs.Facts.{members, adding, Ascending}
+use Rattle.tariff.specs.Facts.{members, adding}
+use Rattle.tariff.specs.Lists.{Ascending}
 
 pub length-members : (w : ℕ) (S : Marks) → length (members w S) ≡ size w S
 unfolding members size
@@ -103,21 +104,18 @@ none-inside w m t = absurd t
 abbrev cut : ℕ → Marks → Marks
 cut w S m = ltb m w && S m
 
+ltb-more : (m w : ℕ) → (m ≡ w → ⊥) → ltb m w ≡ ltb m (suc w)
+ltb-more m w h = grind (arith, tells)
+
 cut-more : (w : ℕ) (S : Marks) (b : Bool) → S w ≡ b → adding (cut w S) (cond b (w ∷ []) []) ≡ cut (suc w) S
 cut-more w S true e = fun-ext (λ m. ⊎-elim
     (λ (h : m ≡ w). ap (λ k. eqb k w || cut w S k) h ∙ ap₂ (λ (x y : Bool). x || y) (eq-eqb w w refl) refl ∙ sym (ap (cut (suc w) S) h ∙ ap₂ (λ (x y : Bool). x && y) (lt-ltb w (suc w) (omega arith)) e))
-    (λ (h : m ≡ w → ⊥). ap₂ (λ (x y : Bool). x || y) (ne-eqb m w h) refl ∙ ap (λ x. x && S m) (same m h))
+    (λ (h : m ≡ w → ⊥). ap₂ (λ (x y : Bool). x || y) (ne-eqb m w h) refl ∙ ap (λ x. x && S m) (ltb-more m w h))
     (cases-eq m w))
-  where
-    same : (m : ℕ) → (m ≡ w → ⊥) → ltb m w ≡ ltb m (suc w)
-    same m h = grind (arith, tells)
 cut-more w S false e = fun-ext (λ m. ⊎-elim
     (λ (h : m ≡ w). ap (cut w S) h ∙ ap₂ (λ (x y : Bool). x && y) (le-ltb w w (omega arith)) refl ∙ sym (ap (cut (suc w) S) h ∙ ap₂ (λ (x y : Bool). x && y) (lt-ltb w (suc w) (omega arith)) e))
-    (λ (h : m ≡ w → ⊥). ap (λ x. x && S m) (same m h))
+    (λ (h : m ≡ w → ⊥). ap (λ x. x && S m) (ltb-more m w h))
     (cases-eq m w))
-  where
-    same : (m : ℕ) → (m ≡ w → ⊥) → ltb m w ≡ ltb m (suc w)
-    same m h = grind (arith, tells)
 
 adding-cut : (w : ℕ) (S : Marks) → adding no-marks (members w S) ≡ cut w S
 unfolding members

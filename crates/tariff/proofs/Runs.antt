@@ -1,15 +1,15 @@
--- Readings one behind the other: the turns of a loop that makes them, and what it is that they give or are refused by.
+-- The turns of a loop that makes one reading behind another.
 use mathlib.Core.Path.{_≡_, refl, sym, ap, _∙_}
-use mathlib.Core.List.{List, [], _∷_, _++_}
-use Prim.Native.Nat.{ℕ, zero, suc, _+_, _-_, _<_, _≤_}
+use mathlib.Core.List.{List, [], _∷_}
+use Prim.Native.Nat.{ℕ, suc, _+_, _-_, _<_, _≤_}
 use native.Mathlib.Omega.{arith}
-use lib.ListN.{length}
 use Rattle.std.specs.declared.result.Result.{Result}
 use Rattle.std.specs.declared.result.Result.the-variants.{Ok, Err}
 use Rattle.marks.specs.Sets.{Marks, with-mark}
 use Rattle.tariff.specs.declared.fault.NumberFault.{NumberFault}
 use Rattle.tariff.specs.Readings.{and-then, mapped, many, number-at}
-use Rattle.tariff.specs.Facts.{adding, marks-at}
+use Rattle.tariff.specs.Facts.{adding}
+use Rattle.tariff.specs.Lists.{marks-at}
 
 -- one reading of n, i of them made
 many-one : {A E S : Type 0} (read : S → ℕ → Result (A × ℕ) E) (next : A → S → S) (n i : ℕ) (s : S) (p : ℕ) → i < n → many read next (n - i) s p ≡ and-then (read s p) (λ x q. mapped (λ xs. x ∷ xs) (many read next (n - (i + 1)) (next x s) q))

@@ -2,7 +2,7 @@
 use mathlib.Core.Path.{_≡_}
 use mathlib.Core.Bool.{cond}
 use mathlib.Core.List.{List, [], _∷_, _++_}
-use Prim.Native.Nat.{ℕ, zero, suc, _+_, _-_, _<_, _≤_}
+use Prim.Native.Nat.{ℕ, zero, suc, _-_, _<_, _≤_}
 use lib.Dec.{ltb}
 use lib.ListN.{length}
 use Rattle.std.specs.Joined.{joined}
@@ -14,7 +14,8 @@ use Rattle.marks.specs.MarkSets.{marks-of, Unchanged}
 use Rattle.marks.specs.Sets.{Marks, Of-width, no-marks, with-mark, size}
 use Rattle.tariff.specs.declared.fault.NumberFault.{NumberFault}
 use Rattle.tariff.specs.Numbers.{encode}
-use Rattle.tariff.specs.Readings.{and-then, mapped, many, fault, number-at}
+use Rattle.tariff.specs.Lists.{marks-at, Ascending, least-behind}
+use Rattle.tariff.specs.Readings.{and-then, mapped, fault, number-at}
 use Rattle.tariff.specs.Faults.{Fault-is}
 
 -- the marks below w that the set holds, ascending
@@ -31,10 +32,6 @@ abbrev pub adding : Marks → List ℕ → Marks
 adding S [] = S
 adding S (m ∷ ms) = adding (with-mark S m) ms
 
--- k marks below the width, the first of them not below least and each above the one before
-abbrev pub marks-at : ℕ → List ℕ → ℕ → ℕ → ℕ → Result (List ℕ × ℕ) NumberFault
-marks-at w bs = many (λ least p. number-at 0 (w - 1) least bs p) (λ m _. m + 1)
-
 -- nothing stands behind q
 abbrev pub ended : {A : Type 0} → List ℕ → A → ℕ → Result (A × ℕ) NumberFault
 ended bs x q = cond (ltb q (length bs)) (Err (fault BytesRemain q)) (Ok (x, q))
@@ -48,16 +45,6 @@ facts-at w bs = and-then (number-at 0 512 0 bs 0) (λ k p. and-then (mapped (add
 abbrev pub filled : {A B E : Type 0} → Result A E → B → ℕ → Result (B × ℕ) E
 filled (Ok a) x q = Ok (x, q)
 filled (Err f) x q = Err f
-
--- marks below w that ascend strictly, the first of them not below least
-abbrev pub Ascending : ℕ → ℕ → List ℕ → Type 0
-Ascending w least [] = Unit {0}
-Ascending w least (m ∷ ms) = (least ≤ m) × (m < w) × Ascending w (m + 1) ms
-
--- what a mark behind these must not lie below
-abbrev pub least-behind : ℕ → List ℕ → ℕ
-least-behind least [] = least
-least-behind least (m ∷ ms) = least-behind (m + 1) ms
 
 -- the bytes begin with a count k up to 512 and marks ms, no more than k, that are right; q is where the rest starts
 pub record Begun (w : ℕ) (bs : List ℕ) (k : ℕ) (ms : List ℕ) (q : ℕ) : Type 0 where

@@ -2,13 +2,11 @@ use mathlib.Core.Path.{_≡_, sym, ap, subst, _∙_}
 use mathlib.Core.List.{List}
 use mathlib.Core.Logic.{⊎-elim}
 use Prim.Native.Nat.{ℕ, _<_, _≤_}
-use lib.ListN.{length, getD}
 use Rattle.std.specs.declared.result.Result.{Result}
-use Rattle.std.specs.declared.result.Result.the-variants.{Ok, Err}
 use Rattle.std.proofs.shelf.Elements.{all-from-getD}
 use Rattle.std.proofs.shelf.Results.{err-from-errBy}
 use Rattle.marks.specs.declared.set.MarkSet.{MarkSet}
-use Rattle.marks.specs.MarkSets.{marks-of, Bad-width, Is-set}
+use Rattle.marks.specs.MarkSets.{Bad-width, Is-set}
 use Rattle.marks.specs.Refusals.{Test}
 use Rattle.marks.specs.Sets.{Marks, no-marks}
 use Rattle.tariff.specs.declared.fault.NumberFault.{NumberFault}

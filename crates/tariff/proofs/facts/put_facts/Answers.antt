@@ -1,4 +1,4 @@
-use mathlib.Core.Path.{sym, subst}
+use mathlib.Core.Path.{subst}
 use native.Mathlib.Omega.{arith}
 use Rattle.marks.specs.MarkSets.{marks-of}
 use Rattle.tariff.specs.Numbers.{encode}

@@ -1,7 +1,5 @@
-use mathlib.Core.Path.{_≡_, sym, subst}
-use Prim.Native.Nat.{_+_, _≤_}
+use mathlib.Core.Path.{sym, subst}
 use native.Mathlib.Omega.{arith}
-use lib.ListN.{length}
 use Rattle.marks.specs.MarkSets.{marks-of}
 use Rattle.tariff.specs.Facts.{members}
 use Rattle.tariff.specs.Numbers.{encode}

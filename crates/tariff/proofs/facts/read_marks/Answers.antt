@@ -2,10 +2,10 @@ use mathlib.Core.Path.{_≡_, refl, sym, ap, ap₂, _∙_}
 use mathlib.Core.List.{List}
 use Prim.Native.Nat.{ℕ, _+_, _-_}
 use native.Mathlib.Omega.{arith}
-use Rattle.std.specs.declared.result.Result.the-variants.{Ok, Err}
 use Rattle.std.proofs.shelf.Results.{err-from-errBy}
 use Rattle.marks.specs.MarkSets.{marks-of}
-use Rattle.tariff.specs.Facts.{adding, marks-at}
+use Rattle.tariff.specs.Facts.{adding}
+use Rattle.tariff.specs.Lists.{marks-at}
 use Rattle.tariff.specs.Readings.{text, mapped, number-at}
 use Rattle.tariff.proofs.Runs.{adding-more, adding-stop, adding-all}
 use Rattle.tariff.proofs.facts.read_marks.Needs as need

@@ -1,7 +1,8 @@
 use mathlib.Core.Path.{_≡_}
 use Prim.Native.Nat.{_-_}
 use Rattle.marks.specs.MarkSets.{marks-of}
-use Rattle.tariff.specs.Facts.{adding, marks-at}
+use Rattle.tariff.specs.Facts.{adding}
+use Rattle.tariff.specs.Lists.{marks-at}
 use Rattle.tariff.specs.Readings.{text, mapped}
 use Rattle.tariff.proofs.facts.read_marks.Given as given
 

@@ -1,11 +1,11 @@
 use mathlib.Core.Path.{_≡_, sym, ap, subst, _∙_}
-use mathlib.Core.List.{List, _++_}
+use mathlib.Core.List.{List}
 use Prim.Native.Nat.{ℕ, _+_}
 use native.Mathlib.Omega.{arith}
 use lib.ListN.{length, take, drop}
 use Rattle.std.specs.declared.result.Result.the-variants.{Ok}
 use Rattle.std.proofs.shelf.Lists.{take-at}
-use Rattle.tariff.specs.Facts.{facts-bytes, facts-at, Facts-answer}
+use Rattle.tariff.specs.Facts.{facts-bytes, Facts-answer}
 use Rattle.tariff.specs.Writings.{Written}
 use Rattle.tariff.proofs.Strings.{right-facts, only-facts}
 use Rattle.tariff.proofs.stands.facts_stand.Needs as need
