@@ -50,12 +50,18 @@ Within low high n = (low ≤ n) × (n ≤ high)
 abbrev pub Some-number : List ℕ → (ℕ → Type 0) → Type 0
 Some-number bs P = (n : ℕ) × Begins n bs × P n
 
--- the first test that the number at the front of the bytes fails, by its refusal; no number meets the others
+-- the first test that the number at the front of the bytes fails, by the refusal that it meets; it must lie from low to high, and
+-- not below least, which is 0 where no ascent is asked for
 abbrev pub Fails : ℕ → ℕ → ℕ → List ℕ → Refusal → Type 0
+-- 1
 Fails low high least bs BytesEnd = Unfinished bs
+-- 2
 Fails low high least bs Malformed = Too-long bs ⊎ Misspelled bs
+-- 3
 Fails low high least bs OutsideLimit = Some-number bs (Outside low high)
+-- 4
 Fails low high least bs NotAscending = Some-number bs (λ n. Within low high n × (n < least))
+-- no number meets another
 Fails low high least bs FewRecords = ⊥
 Fails low high least bs BytesRemain = ⊥
 Fails low high least bs Width = ⊥

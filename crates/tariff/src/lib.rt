@@ -1,4 +1,4 @@
-// Numbers in the caller's bytes: read, tested and written.
+// Numbers and facts strings in the caller's bytes: read, tested and written.
 pub mod cursor;
 pub mod facts;
 pub mod fault;
