@@ -1,0 +1,9 @@
+pub mod Books
+pub mod Rules
+pub mod Yields
+pub mod Readings
+pub mod Methods
+pub mod Says
+pub mod Founded
+pub mod Computed
+pub mod Theorems
