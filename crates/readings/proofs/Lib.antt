@@ -4,3 +4,6 @@ pub mod Closing
 pub mod Yields
 pub mod FirstRounds
 pub mod SecondRounds
+pub mod Listing
+pub mod Filling
+pub mod Bound
