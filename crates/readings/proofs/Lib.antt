@@ -4,6 +4,12 @@ pub mod Closing
 pub mod Yields
 pub mod FirstRounds
 pub mod SecondRounds
+pub mod Bound
 pub mod Listing
 pub mod Filling
-pub mod Bound
+pub mod Computing
+pub mod Stopping
+pub mod Soundly
+pub mod Breaking
+pub mod Deciding
+pub mod Founding

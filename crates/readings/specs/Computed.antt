@@ -57,6 +57,12 @@ filled B rules passes (suc n) ms =
 abbrev pub all-rules : ℕ → List Rule → Marks → List Rule
 all-rules w lines facts = map fact (listed w facts) ++ lines
 
+-- the verdict, where the book clashes at T or not, and the yields of T are the same or not
+abbrev pub verdict-by : (clash same : Bool) → Verdict
+verdict-by true same = Broken
+verdict-by false true = Clear
+verdict-by false false = Suspect
+
 module _ (B : Book) (lines : List Rule) (facts : Marks) where
   abbrev pub full-of : Marks → List ℕ
   full-of S = filled B (all-rules (B .width) lines facts) (λ r. has-none (r .exceptions) S) (B .width) []
@@ -80,10 +86,5 @@ module _ (B : Book) (lines : List Rule) (facts : Marks) where
   settled-of = settle-from (suc (B .width)) 0 [] (listed (B .width) (below (B .width)))
 
   -- the verdict, by the T of the least reading
-  abbrev pub verdict-by : (clash same : Bool) → Verdict
-  verdict-by true same = Broken
-  verdict-by false true = Clear
-  verdict-by false false = Suspect
-
   abbrev pub verdict-of : Marks → Verdict
   verdict-of T = verdict-by (B .clash T) (agree (B .width) (among (full-of T)) (among (guarded-of T)))
