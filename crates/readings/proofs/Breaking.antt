@@ -1,1 +1,77 @@
--- Breaking
+-- Facts are broken exactly when the book clashes at T: while it does not, T lies within U.
+use mathlib.Core.List.{List}
+use mathlib.Core.Logic.{_⊎_, _↔_, inl, inr}
+use mathlib.Core.Path.{_≡_, sym, _∙_}
+use Prim.Native.Nat.{ℕ}
+use Rattle.marks.specs.Sets.{Marks, _∈_, _⊆_, below, no-marks, Of-width, _∩_}
+use Rattle.readings.specs.Books.{Book, Clashes, Closed}
+use Rattle.readings.specs.Rules.{Rule, Fit, All-in, None-in}
+use Rattle.readings.specs.Yields.{Admitted, Allowed, Full, Guarded}
+use Rattle.readings.specs.Readings.{Least-reading}
+use Rattle.readings.specs.Methods.{Run, start, round, First-round, first-method}
+use Rattle.readings.specs.Says.{Is-broken}
+use Rattle.readings.proofs.Sets.{both, meet-left, meet-right, within-same, with-old, with-within, within-or-lacks, decide}
+use Rattle.readings.proofs.Closing.{none-within, meet-closed}
+use Rattle.readings.proofs.Yields.{head-within, with-head}
+use Rattle.readings.proofs.FirstRounds.{T-width, U-width, moves}
+use Rattle.readings.proofs.SecondRounds.{U-closed, U-heads}
+use Rattle.readings.proofs.Stopping.{least-run}
+
+module _ {B : Book} {lines : List Rule} {facts : Marks} (fit : Fit B lines facts) where
+  -- a full yield lies within a closed set that has each head which the yield has by a rule, where its conditions are
+  full-within : {S X : Marks} (Z : Marks) → Full B lines facts S X → Of-width (B .width) Z → Closed B Z
+      → ((r : Rule) → Admitted lines facts S r → All-in (r .conditions) Z → r .head ∈ X → r .head ∈ Z) → X ⊆ Z
+  full-within {X = X} Z f zw zc zh m t =
+      meet-right X Z m
+      (f .least (X ∩ Z) (λ n u. zw n (meet-right X Z n u)) (none-within (X ∩ Z)) (meet-closed B (fit .lawful) X Z (f .of-width) zw (f .closed) zc)
+      (λ r a c.
+        let h : r .head ∈ X = f .heads r a (λ k j. meet-left X Z k (c k j)) in
+        both (X (r .head)) (Z (r .head)) h (zh r a (λ k j. meet-right X Z k (c k j)) h))
+      m t)
+
+  -- a rule with its head in T′ is allowed at T within T′, where the book does not clash at T′
+  allowed-at : (T T′ S : Marks) {r : Rule} → Of-width (B .width) T′ → T ⊆ T′ → T ⊆ S → (Clashes B T′ → ⊥) → Admitted lines facts S r → r .head ∈ T′ → Allowed B lines facts T r
+  allowed-at T T′ S {r} w t s n a h =
+      record {
+        admitted = record { counts = a .counts; exceptions = λ m j u. a .exceptions m j (s m u) };
+        head = λ d. n (fit .lawful .clash-grows _ T′ (with-head fit T (a .counts) (λ m u. w m (t m u))) w (with-within T T′ (r .head) h t) d);
+      }
+
+  pub T-within-U : {k : ℕ} {T U : Marks} → Run (first-method B lines facts) k T U → (Clashes B T → ⊥) → T ⊆ U
+  T-within-U start n = none-within _
+  T-within-U (round {T = T} {V = U} {T′ = T′} {V′ = U′} run r) n =
+      let w = r .full .of-width in
+      let t : T ⊆ T′ = moves fit run r .0 in
+      let before : T ⊆ U = T-within-U run (λ c. n (fit .lawful .clash-grows T T′ (T-width run) w t c)) in
+      let within-old : T′ ⊆ U = full-within U (r .full) (U-width run) (U-closed fit run) (λ q a c h. U-heads fit T (T-width run) run (λ m u. u) q (allowed-at T T′ U w t before n a h) c) in
+      full-within U′ (r .full) (r .guarded .of-width) (r .guarded .closed) (λ q a c h. r .guarded .heads q (allowed-at T′ T′ U w (λ m u. u) within-old n a h) c)
+
+  clash-if-broken : {T U : Marks} → Least-reading B lines facts T U → Is-broken B T U → Clashes B T
+  clash-if-broken {T} p (inl c) = fit .lawful .clash-grows no-marks T (none-within _) (p .reading .full .of-width) (none-within T) c
+  clash-if-broken {T} {U} p (inr b) =
+      elim (decide (B .clash T)) [
+        inl c ↦ c
+      | inr n ↦ absurd (b .1 .1 (T-within-U (least-run fit p .1) n (b .0) (b .1 .0)))
+      ]
+
+  -- where the book clashes at T, T is all marks, and it denies every head there, so that U is the closure of nothing
+  broken-if-clash : {T U : Marks} → Least-reading B lines facts T U → Clashes B T → Is-broken B T U
+  broken-if-clash {T} {U} p c =
+      elim (within-or-lacks (B .width) (below (B .width)) U (λ m t. t)) [
+        inr l ↦ inr (l .0, (all (l .0) (l .1), l .2))
+      | inl a ↦ inl (fit .lawful .clash-comes-back no-marks (none-within _) (fit .lawful .clash-grows T (B .closure no-marks) w none-width (λ m t. U-within m (a m (w m t))) c))
+      ]
+    where
+      w : Of-width (B .width) T
+      w = p .reading .full .of-width
+      none-width : Of-width (B .width) (B .closure no-marks)
+      none-width = fit .lawful .of-width no-marks (none-within _)
+      all : below (B .width) ⊆ T
+      all = within-same (sym (fit .lawful .clash-gives-all T w c) ∙ p .reading .full .closed)
+      U-within : U ⊆ B .closure no-marks
+      U-within =
+          p .reading .guarded .least (B .closure no-marks) none-width (none-within _) (fit .lawful .idempotent no-marks (none-within _))
+          (λ r a k. absurd (a .head (fit .lawful .clash-grows T _ w (with-head fit T (a .admitted .counts) w) (with-old T (r .head)) c)))
+
+  pub broken-is-clash : {T U : Marks} → Least-reading B lines facts T U → Is-broken B T U ↔ Clashes B T
+  broken-is-clash p = (clash-if-broken p, broken-if-clash p)

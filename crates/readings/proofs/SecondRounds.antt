@@ -34,11 +34,11 @@ module _ {B : Book} {lines : List Rule} {facts : Marks} (fit : Fit B lines facts
   T-within start Z zw zc zh = none-within Z
   T-within (round run r) Z zw zc zh = r .full .least Z zw (none-within Z) zc (λ q a. zh q (admitted-falls _ (moves fit run r .1) a))
 
-  U-closed : {k : ℕ} {T U : Marks} → Run (first-method B lines facts) k T U → Closed B U
+  pub U-closed : {k : ℕ} {T U : Marks} → Run (first-method B lines facts) k T U → Closed B U
   U-closed start = all-closed B (fit .lawful)
   U-closed (round run r) = r .guarded .closed
 
-  U-heads : {k : ℕ} {T U : Marks} (T′ : Marks) → Of-width (B .width) T′ → Run (first-method B lines facts) k T U → T ⊆ T′ → Has-heads (Allowed B lines facts T′) U
+  pub U-heads : {k : ℕ} {T U : Marks} (T′ : Marks) → Of-width (B .width) T′ → Run (first-method B lines facts) k T U → T ⊆ T′ → Has-heads (Allowed B lines facts T′) U
   U-heads T′ w start t r a c = head-within fit (a .admitted .counts)
   U-heads T′ w (round run q) t r a c = q .guarded .heads r (allowed-falls fit _ T′ w t a) c
 
