@@ -13,3 +13,4 @@ pub mod Soundly
 pub mod Breaking
 pub mod Deciding
 pub mod Founding
+pub mod Statements

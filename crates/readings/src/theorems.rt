@@ -1,4 +1,50 @@
 // What is proved of readings: each function's contract is a theorem, and the function does nothing.
-ghost use Rattle.readings.specs.Theorems.{Always};
+ghost use Rattle.readings.specs.Theorems.{Always, Yields-exist-once, Yields-fall, One-least-reading, First-method-reaches-it, Methods-stop, Methods-agree, Sound-readings-agree, Broken-is-a-clash, Says-one-thing, Relations-decide, Computed-right, Bare-book-is-well-founded};
 
-pub fn nothing() ensures { λ _. ⌜ Always (λ B lines facts. Unit {0}) ⌝ } {}
+pub fn yields_exist_once()
+    ensures { λ _. ⌜ Always Yields-exist-once ⌝ }
+{}
+
+pub fn yields_fall()
+    ensures { λ _. ⌜ Always Yields-fall ⌝ }
+{}
+
+pub fn one_least_reading()
+    ensures { λ _. ⌜ Always One-least-reading ⌝ }
+{}
+
+pub fn first_method_reaches_it()
+    ensures { λ _. ⌜ Always First-method-reaches-it ⌝ }
+{}
+
+pub fn methods_stop()
+    ensures { λ _. ⌜ Always Methods-stop ⌝ }
+{}
+
+pub fn methods_agree()
+    ensures { λ _. ⌜ Always Methods-agree ⌝ }
+{}
+
+pub fn sound_readings_agree()
+    ensures { λ _. ⌜ Always Sound-readings-agree ⌝ }
+{}
+
+pub fn broken_is_a_clash()
+    ensures { λ _. ⌜ Always Broken-is-a-clash ⌝ }
+{}
+
+pub fn bare_book_is_well_founded()
+    ensures { λ _. ⌜ Bare-book-is-well-founded ⌝ }
+{}
+
+pub fn says_one_thing()
+    ensures { λ _. ⌜ Always Says-one-thing ⌝ }
+{}
+
+pub fn relations_decide()
+    ensures { λ _. ⌜ Always Relations-decide ⌝ }
+{}
+
+pub fn computed_right()
+    ensures { λ _. ⌜ Always Computed-right ⌝ }
+{}
