@@ -25,6 +25,7 @@ module _ {B : Book} {lines : List Rule} {facts : Marks} (fit : Fit B lines facts
     where
       t : T ⊆ T′
       t = moves fit (round run r₀) r .0
+
       go : ((T₀ ≡ T) × (U₀ ≡ U)) ⊎ (k ≤ size (B .width) T) → (T′ ⊆ T) ⊎ (size (B .width) T < size (B .width) T′) → ((T ≡ T′) × (U ≡ U′)) ⊎ (suc k ≤ size (B .width) T′)
       go (inl e) q = inl (rest (r₀ .guarded) r (least-unique (subst (λ (V : Marks). Full B lines facts V T) (e .1) (r₀ .full)) (r .full)))
       go (inr h) (inl q) = inl (rest (r₀ .guarded) r (same t q))
@@ -34,6 +35,6 @@ module _ {B : Book} {lines : List Rule} {facts : Marks} (fit : Fit B lines facts
   pub rests : {k : ℕ} {T U T′ U′ : Marks} → B .width < k → Run (first-method B lines facts) k T U → First-round B lines facts U T′ U′ → (T ≡ T′) × (U ≡ U′)
   rests {T′ = T′} h run r =
       elim (rest-or-more run r) [
-        inl e ↦ e
-      | inr n ↦ let z : ⊥ = omega (arith, size-le (B .width) T′) in absurd z
+        | inl e ↦ e
+        | inr n ↦ let z : ⊥ = omega (arith, size-le (B .width) T′) in absurd z
       ]

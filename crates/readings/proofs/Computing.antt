@@ -36,10 +36,10 @@ module _ {B : Book} {lines : List Rule} {facts : Marks} (fit : Fit B lines facts
   counting : (r : Rule) → List·Memᴰ r (all-rules (B .width) lines facts) → Counts lines facts r
   counting r i =
       elim (List·Memᴰ·append-cases (map fact (listed (B .width) facts)) i) [
-        inl j ↦
-          let f = Memᴰ·of-map fact (listed (B .width) facts) j in
-          subst (Counts lines facts) (f .2) (stands (within-same (among-listed (B .width) facts (fit .of-width)) (f .0) (among-in (listed (B .width) facts) (f .1))))
-      | inr j ↦ line j
+        | inl j ↦
+            let f = Memᴰ·of-map fact (listed (B .width) facts) j in
+            subst (Counts lines facts) (f .2) (stands (within-same (among-listed (B .width) facts (fit .of-width)) (f .0) (among-in (listed (B .width) facts) (f .1))))
+        | inr j ↦ line j
       ]
 
   heads-within : (r : Rule) → List·Memᴰ r (all-rules (B .width) lines facts) → r .head ∈ below (B .width)
@@ -58,15 +58,15 @@ module _ {B : Book} {lines : List Rule} {facts : Marks} (fit : Fit B lines facts
       let n : Rule → Bool = λ r. has-none (r .exceptions) S in
       least-by
       (λ r p.
-        record {
-          admitted = record { counts = counting r (p .among-rules); exceptions = has-none-in (r .exceptions) S (right (not (d r)) (n r) (p .passed)) };
-          head = T-not (d r) (left (not (d r)) (n r) (p .passed));
-        })
+      record {
+        admitted = record { counts = counting r (p .among-rules); exceptions = has-none-in (r .exceptions) S (right (not (d r)) (n r) (p .passed)) };
+        head = T-not (d r) (left (not (d r)) (n r) (p .passed));
+      })
       (λ r a.
-        record {
-          among-rules = counted (a .admitted .counts);
-          passed = both (not (d r)) (n r) (not-T (d r) (a .head)) (in-has-none (r .exceptions) S (a .admitted .exceptions));
-        })
+      record {
+        among-rules = counted (a .admitted .counts);
+        passed = both (not (d r)) (n r) (not-T (d r) (a .head)) (in-has-none (r .exceptions) S (a .admitted .exceptions));
+      })
       (filled-least B (fit .lawful) (all-rules (B .width) lines facts) heads-within (λ r. not (d r) && n r) [] (none-within _))
 
   -- the computed round
@@ -100,21 +100,22 @@ module _ {B : Book} {lines : List Rule} {facts : Marks} (fit : Fit B lines facts
         }
 
     unchanged-is : T unchanged → (among ts ≡ T⁺) × (among us ≡ U⁺)
-    unchanged-is t =
-        (agree-same (B .width) (among ts) T⁺ (T-width run) (full-right (among us) .of-width) (left (agree (B .width) (among ts) T⁺) (agree (B .width) (among us) U⁺) t),
-          agree-same (B .width) (among us) U⁺ (U-width run) (guarded-right T⁺ .of-width) (right (agree (B .width) (among ts) T⁺) (agree (B .width) (among us) U⁺) t))
+    unchanged-is t = (
+      agree-same (B .width) (among ts) T⁺ (T-width run) (full-right (among us) .of-width) (left (agree (B .width) (among ts) T⁺) (agree (B .width) (among us) U⁺) t),
+      agree-same (B .width) (among us) U⁺ (U-width run) (guarded-right T⁺ .of-width) (right (agree (B .width) (among ts) T⁺) (agree (B .width) (among us) U⁺) t),
+    )
 
     -- a rest of the k-th pair would have shown
     still-unrested : (T unchanged → ⊥) → Unrested (suc k)
     still-unrested changes j T₁ U₁ h run₁ r₁ =
         elim (eq-or-lt-of-le (le-of-suc-le-suc h)) [
-          inr l ↦ first j T₁ U₁ l run₁ r₁
-        | inl e ↦
-            let q = run-unique (subst (λ (i : ℕ). Run (first-method B lines facts) i T₁ U₁) e run₁) run in
-            let r : First-round B lines facts (among us) (among ts) (among us) = subst₂ (λ (X Y : Marks). First-round B lines facts Y X Y) (q .0) (q .1) r₁ in
-            let t : among ts ≡ T⁺ = least-unique (r .full) (full-right (among us)) in
-            let u : among us ≡ U⁺ = least-unique (subst (λ (X : Marks). Guarded B lines facts X (among us)) t (r .guarded)) (guarded-right T⁺) in
-            changes (both (agree (B .width) (among ts) T⁺) (agree (B .width) (among us) U⁺) (same-agree (B .width) (among ts) T⁺ t) (same-agree (B .width) (among us) U⁺ u))
+          | inr l ↦ first j T₁ U₁ l run₁ r₁
+          | inl e ↦
+              let q = run-unique (subst (λ (i : ℕ). Run (first-method B lines facts) i T₁ U₁) e run₁) run in
+              let r : First-round B lines facts (among us) (among ts) (among us) = subst₂ (λ (X Y : Marks). First-round B lines facts Y X Y) (q .0) (q .1) r₁ in
+              let t : among ts ≡ T⁺ = least-unique (r .full) (full-right (among us)) in
+              let u : among us ≡ U⁺ = least-unique (subst (λ (X : Marks). Guarded B lines facts X (among us)) t (r .guarded)) (guarded-right T⁺) in
+              changes (both (agree (B .width) (among ts) T⁺) (agree (B .width) (among us) U⁺) (same-agree (B .width) (among ts) T⁺ t) (same-agree (B .width) (among us) U⁺ u))
         ]
 
   settle-right : (more k : ℕ) (ts us : List ℕ) → Run (first-method B lines facts) k (among ts) (among us) → Unrested k → more + k ≡ suc (B .width)
@@ -128,8 +129,10 @@ module _ {B : Book} {lines : List Rule} {facts : Marks} (fit : Fit B lines facts
     where
       ts′ : List ℕ
       ts′ = full-of B lines facts (among us)
+
       us′ : List ℕ
       us′ = guarded-of B lines facts (among ts′)
+
       go : (b : Bool) → (T b → T (unchanged k ts us run first)) → (T (unchanged k ts us run first) → T b)
           → ((T (unchanged k ts us run first) → ⊥) → Ends B lines facts (B .width + 2) (settle-from B lines facts more (suc k) ts′ us′))
           → Ends B lines facts (B .width + 2) (elim b [ true ↦ (suc k, ts, us) | false ↦ settle-from B lines facts more (suc k) ts′ us′ ])

@@ -35,28 +35,28 @@ module _ (passes : Rule → Bool) (X : Marks) where
   fires [] r p a = absurd (List·Memᴰ·not-nil (p .among-rules))
   fires (x ∷ rs) r p a =
       elim (List·Memᴰ·cases-cons (p .among-rules)) [
-        inl e ↦
-          subst (λ (y : Rule). r .head ∈ fired passes (y ∷ rs) X) e
-          (or-left (here r (r .head)) (fired passes rs X (r .head))
-          (both (eqb (r .head) (r .head)) (passes r && has-all (r .conditions) X) (eqb-refl (r .head)) (both (passes r) (has-all (r .conditions) X) (p .passed) (in-has-all (r .conditions) X a))))
-      | inr j ↦ or-right (here x (r .head)) (fired passes rs X (r .head)) (fires rs r (record { among-rules = j; passed = p .passed }) a)
+        | inl e ↦
+            subst (λ (y : Rule). r .head ∈ fired passes (y ∷ rs) X) e
+            (or-left (here r (r .head)) (fired passes rs X (r .head))
+            (both (eqb (r .head) (r .head)) (passes r && has-all (r .conditions) X) (eqb-refl (r .head)) (both (passes r) (has-all (r .conditions) X) (p .passed) (in-has-all (r .conditions) X a))))
+        | inr j ↦ or-right (here x (r .head)) (fired passes rs X (r .head)) (fires rs r (record { among-rules = j; passed = p .passed }) a)
       ]
 
   from-fired : (rules : List Rule) (m : ℕ) → m ∈ fired passes rules X → Fired rules passes X m
   from-fired [] m t = absurd t
   from-fired (x ∷ rs) m t =
       elim (or-cases (here x m) (fired passes rs X m) t) [
-        inl h ↦
-          let q = right (eqb m (x .head)) (passes x && has-all (x .conditions) X) h in
-          record {
-            rule = x;
-            passing = record { among-rules = List·Memᴰ·head refl; passed = left (passes x) (has-all (x .conditions) X) q };
-            is = eqb→eq m (x .head) (left (eqb m (x .head)) (passes x && has-all (x .conditions) X) h);
-            held = has-all-in (x .conditions) X (right (passes x) (has-all (x .conditions) X) q);
-          }
-      | inr h ↦
-          let f = from-fired rs m h in
-          record { rule = f .rule; passing = record { among-rules = List·Memᴰ·tail (f .passing .among-rules); passed = f .passing .passed }; is = f .is; held = f .held }
+        | inl h ↦
+            let q = right (eqb m (x .head)) (passes x && has-all (x .conditions) X) h in
+            record {
+              rule = x;
+              passing = record { among-rules = List·Memᴰ·head refl; passed = left (passes x) (has-all (x .conditions) X) q };
+              is = eqb→eq m (x .head) (left (eqb m (x .head)) (passes x && has-all (x .conditions) X) h);
+              held = has-all-in (x .conditions) X (right (passes x) (has-all (x .conditions) X) q);
+            }
+        | inr h ↦
+            let f = from-fired rs m h in
+            record { rule = f .rule; passing = record { among-rules = List·Memᴰ·tail (f .passing .among-rules); passed = f .passing .passed }; is = f .is; held = f .held }
       ]
 
 module _ (B : Book) (law : Lawful B) (rules : List Rule) (within : (r : Rule) → List·Memᴰ r rules → r .head ∈ below (B .width)) (passes : Rule → Bool) where
@@ -71,8 +71,8 @@ module _ (B : Book) (law : Lawful B) (rules : List Rule) (within : (r : Rule) �
   adding-within X Z s zh =
       join-within X (fired passes rules X) Z s
       (λ m t.
-        let f = from-fired passes X rules m t in
-        subst (λ (j : ℕ). j ∈ Z) (sym (f .is)) (zh (f .rule) (f .passing) (λ k j. s k (f .held k j))))
+      let f = from-fired passes X rules m t in
+      subst (λ (j : ℕ). j ∈ Z) (sym (f .is)) (zh (f .rule) (f .passing) (λ k j. s k (f .held k j))))
 
   adding-width : (X : Marks) → Of-width (B .width) X → Of-width (B .width) (adding X)
   adding-width X x = adding-within X (below (B .width)) x (λ r p c. within r (p .among-rules))
@@ -94,9 +94,9 @@ module _ (B : Book) (law : Lawful B) (rules : List Rule) (within : (r : Rule) �
       law .monotone (adding X) (adding Y) (adding-width X x) (adding-width Y y)
       (join-within X (fired passes rules X) (adding Y) (λ m t. or-left (Y m) (fired passes rules Y m) (s m t))
       (λ m t.
-        let f = from-fired passes X rules m t in
-        or-right (Y m) (fired passes rules Y m)
-        (subst (λ (j : ℕ). j ∈ fired passes rules Y) (sym (f .is)) (fires passes Y rules (f .rule) (f .passing) (λ k j. s k (f .held k j))))))
+      let f = from-fired passes X rules m t in
+      or-right (Y m) (fired passes rules Y m)
+      (subst (λ (j : ℕ). j ∈ fired passes rules Y) (sym (f .is)) (fires passes Y rules (f .rule) (f .passing) (λ k j. s k (f .held k j))))))
 
   module _ (A : Marks) (a : Of-width (B .width) A) where
     abbrev after : ℕ → Marks

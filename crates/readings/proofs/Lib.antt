@@ -9,8 +9,8 @@ pub mod Listing
 pub mod Filling
 pub mod Computing
 pub mod Stopping
-pub mod Soundly
-pub mod Breaking
-pub mod Deciding
-pub mod Founding
+pub mod SoundReadings
+pub mod BrokenSheets
+pub mod Verdicts
+pub mod WellFounded
 pub mod Statements

@@ -18,8 +18,8 @@ pub among-in : {m : ℕ} (ms : List ℕ) → List·Memᴰ m ms → m ∈ among m
 among-in [] i = absurd (List·Memᴰ·not-nil i)
 among-in {m} (k ∷ ks) i =
     elim (List·Memᴰ·cases-cons i) [
-      inl e ↦ or-left (eqb m k) (among ks m) (subst (λ (j : ℕ). T (eqb m j)) e (eqb-refl m))
-    | inr j ↦ or-right (eqb m k) (among ks m) (among-in ks j)
+      | inl e ↦ or-left (eqb m k) (among ks m) (subst (λ (j : ℕ). T (eqb m j)) e (eqb-refl m))
+      | inr j ↦ or-right (eqb m k) (among ks m) (among-in ks j)
     ]
 
 pub in-among : (m : ℕ) (ms : List ℕ) → m ∈ among ms → List·Memᴰ m ms
@@ -44,24 +44,24 @@ listed-below : (w : ℕ) (S : Marks) (m : ℕ) → m ∈ among (listed w S) → 
 listed-below zero S m t = absurd t
 listed-below (suc w) S m t =
     elim (keep-cases (S w) w (listed w S) m t) [
-      inl p ↦ let e = p .0 in omega arith
-    | inr h ↦ let l = listed-below w S m h in omega arith
+      | inl p ↦ let e = p .0 in omega arith
+      | inr h ↦ let l = listed-below w S m h in omega arith
     ]
 
 listed-in : (w : ℕ) (S : Marks) → among (listed w S) ⊆ S
 listed-in zero S m t = absurd t
 listed-in (suc w) S m t =
     elim (keep-cases (S w) w (listed w S) m t) [
-      inl p ↦ subst (λ (j : ℕ). j ∈ S) (sym (p .0)) (p .1)
-    | inr h ↦ listed-in w S m h
+      | inl p ↦ subst (λ (j : ℕ). j ∈ S) (sym (p .0)) (p .1)
+      | inr h ↦ listed-in w S m h
     ]
 
 in-listed : (w : ℕ) (S : Marks) (m : ℕ) → m < w → m ∈ S → m ∈ among (listed w S)
 in-listed zero S m h t = absurd (not-suc-le-zero h)
 in-listed (suc w) S m h t =
     elim (eq-or-lt-of-le (le-of-suc-le-suc h)) [
-      inl e ↦ subst (λ (j : ℕ). j ∈ among (listed (suc w) S)) (sym e) (keep-new (S w) w (listed w S) (subst (λ (j : ℕ). j ∈ S) e t))
-    | inr l ↦ keep-old (S w) w (listed w S) m (in-listed w S m l t)
+      | inl e ↦ subst (λ (j : ℕ). j ∈ among (listed (suc w) S)) (sym e) (keep-new (S w) w (listed w S) (subst (λ (j : ℕ). j ∈ S) e t))
+      | inr l ↦ keep-old (S w) w (listed w S) m (in-listed w S m l t)
     ]
 
 pub listed-width : (w : ℕ) (S : Marks) → Of-width w (among (listed w S))
@@ -86,8 +86,8 @@ agree-below : (w : ℕ) (X Y : Marks) → T (agree w X Y) → (m : ℕ) → m < 
 agree-below zero X Y t m h = absurd (not-suc-le-zero h)
 agree-below (suc w) X Y t m h =
     elim (eq-or-lt-of-le (le-of-suc-le-suc h)) [
-      inl e ↦ subst (λ (j : ℕ). X j ≡ Y j) (sym e) (same-bit-is (X w) (Y w) (left (same-bit (X w) (Y w)) (agree w X Y) t))
-    | inr l ↦ agree-below w X Y (right (same-bit (X w) (Y w)) (agree w X Y) t) m l
+      | inl e ↦ subst (λ (j : ℕ). X j ≡ Y j) (sym e) (same-bit-is (X w) (Y w) (left (same-bit (X w) (Y w)) (agree w X Y) t))
+      | inr l ↦ agree-below w X Y (right (same-bit (X w) (Y w)) (agree w X Y) t) m l
     ]
 
 pub agree-same : (w : ℕ) (X Y : Marks) → Of-width w X → Of-width w Y → T (agree w X Y) → X ≡ Y
@@ -108,8 +108,8 @@ pub has-all-in : (ms : List ℕ) (S : Marks) → T (has-all ms S) → All-in ms 
 has-all-in [] S t m i = absurd (List·Memᴰ·not-nil i)
 has-all-in (x ∷ xs) S t m i =
     elim (List·Memᴰ·cases-cons i) [
-      inl e ↦ subst (λ (j : ℕ). j ∈ S) (sym e) (left (S x) (has-all xs S) t)
-    | inr j ↦ has-all-in xs S (right (S x) (has-all xs S) t) m j
+      | inl e ↦ subst (λ (j : ℕ). j ∈ S) (sym e) (left (S x) (has-all xs S) t)
+      | inr j ↦ has-all-in xs S (right (S x) (has-all xs S) t) m j
     ]
 
 pub in-has-all : (ms : List ℕ) (S : Marks) → All-in ms S → T (has-all ms S)
@@ -120,8 +120,8 @@ pub has-none-in : (ms : List ℕ) (S : Marks) → T (has-none ms S) → None-in 
 has-none-in [] S t m i = absurd (List·Memᴰ·not-nil i)
 has-none-in (x ∷ xs) S t m i =
     elim (List·Memᴰ·cases-cons i) [
-      inl e ↦ subst (λ (j : ℕ). j ∈ S → ⊥) (sym e) (T-not (S x) (left (not (S x)) (has-none xs S) t))
-    | inr j ↦ has-none-in xs S (right (not (S x)) (has-none xs S) t) m j
+      | inl e ↦ subst (λ (j : ℕ). j ∈ S → ⊥) (sym e) (T-not (S x) (left (not (S x)) (has-none xs S) t))
+      | inr j ↦ has-none-in xs S (right (not (S x)) (has-none xs S) t) m j
     ]
 
 pub in-has-none : (ms : List ℕ) (S : Marks) → None-in ms S → T (has-none ms S)

@@ -109,13 +109,13 @@ module _ {B : Book} {lines : List Rule} {facts : Marks} (fit : Fit B lines facts
           closed = p .closed;
           heads = λ r n c. p .heads r (allowed F T′ n) c;
           least = λ Z zw za zc zh m t.
-            meet-left Z Y m
-            (p .least (Z ∩ Y) (λ n u. zw n (meet-left Z Y n u)) (none-within (Z ∩ Y)) (meet-closed B (fit .lawful) Z Y zw (p .of-width) zc (p .closed))
-            (λ r a c.
+              meet-left Z Y m
+              (p .least (Z ∩ Y) (λ n u. zw n (meet-left Z Y n u)) (none-within (Z ∩ Y)) (meet-closed B (fit .lawful) Z Y zw (p .of-width) zc (p .closed))
+              (λ r a c.
               let cz : All-in (r .conditions) Z = λ n j. meet-left Z Y n (c n j) in
               let cy : All-in (r .conditions) Y = λ n j. meet-right Z Y n (c n j) in
               both (Z (r .head)) (Y (r .head)) (zh r (not-refuted F T′ Y o cy a) cz) (p .heads r a cy))
-            m t);
+              m t);
         }
 
   pub second-first : {k : ℕ} {T F : Marks} → Run (second-method B lines facts) k T F → Run (first-method B lines facts) k T (outside (B .width) F)
@@ -134,10 +134,11 @@ module _ {B : Book} {lines : List Rule} {facts : Marks} (fit : Fit B lines facts
       let F = p .0 in
       let before : Run (first-method B lines facts) k T (outside (B .width) F) = subst (Run (first-method B lines facts) k T) (p .2) run in
       let r′ : First-round B lines facts (outside (B .width) F) T′ U′ = subst (λ (V : Marks). First-round B lines facts V T′ U′) (p .2) r in
-      let o : U′ ⊆ outside (B .width) F = moves fit before r′ .1 in
-      (F ∪ outside (B .width) U′,
+      let o : U′ ⊆ outside (B .width) F = moves fit before r′ .1 in (
+        F ∪ outside (B .width) U′,
         round (p .1) (record { grown = full-grown F before (r′ .full); kept = U′; keeps = guarded-kept F before o (r′ .guarded); joined = refl }),
-        sym (upper-joined (B .width) F U′ o))
+        sym (upper-joined (B .width) F U′ o),
+      )
 
   -- the one rests where the other does
   pub second-rests : {k : ℕ} {T U : Marks} → Run (first-method B lines facts) k T U → First-round B lines facts U T U
@@ -146,15 +147,18 @@ module _ {B : Book} {lines : List Rule} {facts : Marks} (fit : Fit B lines facts
       let p = first-second run in
       let F = p .0 in
       let before : Run (first-method B lines facts) k T (outside (B .width) F) = subst (Run (first-method B lines facts) k T) (p .2) run in
-      let r′ : First-round B lines facts (outside (B .width) F) T (outside (B .width) F) = subst (λ (V : Marks). First-round B lines facts V T V) (p .2) r in
-      (F, p .1, p .2,
+      let r′ : First-round B lines facts (outside (B .width) F) T (outside (B .width) F) = subst (λ (V : Marks). First-round B lines facts V T V) (p .2) r in (
+        F,
+        p .1,
+        p .2,
         record {
           grown = full-grown F before (r′ .full);
           kept = outside (B .width) F;
           keeps = guarded-kept F before (λ m t. t) (r′ .guarded);
           joined = same (λ m t. or-left (F m) (outside (B .width) (outside (B .width) F) m) t)
-            (join-within F (outside (B .width) (outside (B .width) F)) F (λ m t. t) (λ m t. not-outside (B .width) F m (less-left (below (B .width)) (outside (B .width) F) m t) (less-out (below (B .width)) (outside (B .width) F) m t)));
-        })
+              (join-within F (outside (B .width) (outside (B .width) F)) F (λ m t. t) (λ m t. not-outside (B .width) F m (less-left (below (B .width)) (outside (B .width) F) m t) (less-out (below (B .width)) (outside (B .width) F) m t)));
+        },
+      )
 
   pub first-rests : {k : ℕ} {T F : Marks} → Run (second-method B lines facts) k T F → Second-round B lines facts T F T F
       → First-round B lines facts (outside (B .width) F) T (outside (B .width) F)

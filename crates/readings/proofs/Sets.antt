@@ -106,9 +106,10 @@ within-or-lacks-below (suc w) X Y = go (within-or-lacks-below w X Y) (decide (X 
     more : ((m : ℕ) → m < w → m ∈ X → m ∈ Y) → (w ∈ X → w ∈ Y) → (m : ℕ) → m < suc w → m ∈ X → m ∈ Y
     more f g m h t =
         elim (eq-or-lt-of-le (le-of-suc-le-suc h)) [
-          inl e ↦ subst (λ (j : ℕ). j ∈ Y) (sym e) (g (subst (λ (j : ℕ). j ∈ X) e t))
-        | inr l ↦ f m l t
+          | inl e ↦ subst (λ (j : ℕ). j ∈ Y) (sym e) (g (subst (λ (j : ℕ). j ∈ X) e t))
+          | inr l ↦ f m l t
         ]
+
     go : ((m : ℕ) → m < w → m ∈ X → m ∈ Y) ⊎ ((m : ℕ) × (m ∈ X) × (m ∈ Y → ⊥)) → (w ∈ X) ⊎ (w ∈ X → ⊥) → (w ∈ Y) ⊎ (w ∈ Y → ⊥)
         → ((m : ℕ) → m < suc w → m ∈ X → m ∈ Y) ⊎ ((m : ℕ) × (m ∈ X) × (m ∈ Y → ⊥))
     go (inr l) x y = inr l
@@ -133,6 +134,6 @@ all-or-lacks (x ∷ xs) S = go (decide (S x)) (all-or-lacks xs S)
 pub none-or-some : (ms : List ℕ) (S : Marks) → None-in ms S ⊎ Some-in ms S
 none-or-some ms S =
     elim (all-or-lacks ms (λ m. not (S m))) [
-      inl a ↦ inl (λ m i. T-not (S m) (a m i))
-    | inr s ↦ inr (s .0, s .1, elim (decide (S (s .0))) [ inl t ↦ t | inr f ↦ absurd (s .2 (not-T (S (s .0)) f)) ])
+      | inl a ↦ inl (λ m i. T-not (S m) (a m i))
+      | inr s ↦ inr (s .0, s .1, elim (decide (S (s .0))) [ inl t ↦ t | inr f ↦ absurd (s .2 (not-T (S (s .0)) f)) ])
     ]

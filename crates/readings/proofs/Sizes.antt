@@ -38,16 +38,16 @@ unfolding size
 size-more zero X Y s m h t n = absurd (not-suc-le-zero h)
 size-more (suc w) X Y s m h t n =
     elim (eq-or-lt-of-le (le-of-suc-le-suc h)) [
-      inl e ↦ omega (arith, size-grows w X Y s, bit-more (X w) (Y w) (subst (λ (j : ℕ). j ∈ Y) e t) (λ x. n (subst (λ (j : ℕ). j ∈ X) (sym e) x)))
-    | inr l ↦ omega (arith, size-more w X Y s m l t n, bit-grows (X w) (Y w) (s w))
+      | inl e ↦ omega (arith, size-grows w X Y s, bit-more (X w) (Y w) (subst (λ (j : ℕ). j ∈ Y) e t) (λ x. n (subst (λ (j : ℕ). j ∈ X) (sym e) x)))
+      | inr l ↦ omega (arith, size-more w X Y s m l t n, bit-grows (X w) (Y w) (s w))
     ]
 
 -- a set that has grown has more marks
 pub same-or-more : (w : ℕ) (X Y : Marks) → Of-width w Y → X ⊆ Y → (Y ⊆ X) ⊎ (size w X < size w Y)
 same-or-more w X Y y s =
     elim (within-or-lacks w Y X y) [
-      inl f ↦ inl f
-    | inr l ↦ inr (size-more w X Y s (l .0) (ltb→lt (l .0) w (y (l .0) (l .1))) (l .1) (l .2))
+      | inl f ↦ inl f
+      | inr l ↦ inr (size-more w X Y s (l .0) (ltb→lt (l .0) w (y (l .0) (l .1))) (l .1) (l .2))
     ]
 
 -- n steps
@@ -65,27 +65,27 @@ module _
     (A : Marks)
     (a : Of-width w A)
   where
-  pub iterate-width : (n : ℕ) → Of-width w (iterate f n A)
-  iterate-width zero = a
-  iterate-width (suc n) = inside (iterate f n A) (iterate-width n)
+    pub iterate-width : (n : ℕ) → Of-width w (iterate f n A)
+    iterate-width zero = a
+    iterate-width (suc n) = inside (iterate f n A) (iterate-width n)
 
-  pub iterate-around : (n : ℕ) → A ⊆ iterate f n A
-  iterate-around zero m t = t
-  iterate-around (suc n) m t = adds (iterate f n A) (iterate-width n) m (iterate-around n m t)
+    pub iterate-around : (n : ℕ) → A ⊆ iterate f n A
+    iterate-around zero m t = t
+    iterate-around (suc n) m t = adds (iterate f n A) (iterate-width n) m (iterate-around n m t)
 
-  moving : (n : ℕ) → (f (iterate f n A) ⊆ iterate f n A) ⊎ (n < size w (f (iterate f n A)))
-  moving zero = elim (same-or-more w A (f A) (inside A a) (adds A a)) [ inl s ↦ inl s | inr q ↦ inr (omega arith) ]
-  moving (suc n) =
-      let X = iterate f n A in
-      let x = iterate-width n in
-      elim (moving n) [
-        inl s ↦ inl (mono (f X) X (inside X x) x s)
-      | inr h ↦ elim (same-or-more w (f X) (f (f X)) (inside (f X) (inside X x)) (adds (f X) (inside X x))) [ inl s ↦ inl s | inr q ↦ inr (omega arith) ]
-      ]
+    moving : (n : ℕ) → (f (iterate f n A) ⊆ iterate f n A) ⊎ (n < size w (f (iterate f n A)))
+    moving zero = elim (same-or-more w A (f A) (inside A a) (adds A a)) [ inl s ↦ inl s | inr q ↦ inr (omega arith) ]
+    moving (suc n) =
+        let X = iterate f n A in
+        let x = iterate-width n in
+        elim (moving n) [
+          | inl s ↦ inl (mono (f X) X (inside X x) x s)
+          | inr h ↦ elim (same-or-more w (f X) (f (f X)) (inside (f X) (inside X x)) (adds (f X) (inside X x))) [ inl s ↦ inl s | inr q ↦ inr (omega arith) ]
+        ]
 
-  pub at-rest : f (iterate f w A) ⊆ iterate f w A
-  at-rest =
-      elim (moving w) [
-        inl s ↦ s
-      | inr h ↦ let n = size-le w (f (iterate f w A)) in let z : ⊥ = omega arith in absurd z
-      ]
+    pub at-rest : f (iterate f w A) ⊆ iterate f w A
+    at-rest =
+        elim (moving w) [
+          | inl s ↦ s
+          | inr h ↦ let n = size-le w (f (iterate f w A)) in let z : ⊥ = omega arith in absurd z
+        ]

@@ -1,39 +1,40 @@
 -- The theorems that have several parts, put together from the lemmas.
 use mathlib.Core.List.{List}
 use mathlib.Core.Path.{_≡_, subst₂, sym}
-use Rattle.marks.specs.Sets.{Marks}
+use Rattle.marks.specs.Sets.{Marks, outside}
 use Rattle.readings.specs.Books.{Book}
 use Rattle.readings.specs.Rules.{Rule, Fit}
 use Rattle.readings.specs.Says.{the-verdict}
 use Rattle.readings.specs.Computed.{among, full-of, guarded-of}
-use Rattle.readings.specs.Theorems.{Yields-exist-once, Yields-fall, First-method-reaches-it, Methods-stop, Methods-agree, Sound-readings-agree, Says-one-thing, Relations-decide, Computed-right}
+use Rattle.readings.specs.Theorems.{Yields-exist-once, Yields-fall, First-method-finds-it, Methods-stop, Methods-agree, Answers-are-sound, Says-one-thing, Relations-decide, Computed-right}
+use Rattle.readings.proofs.Sets.{or-left, within-same}
 use Rattle.readings.proofs.Closing.{least-unique}
 use Rattle.readings.proofs.Yields.{full-falls, guarded-falls, guarded-within-full}
 use Rattle.readings.proofs.FirstRounds.{moves, rests-at-least}
 use Rattle.readings.proofs.SecondRounds as two
 use Rattle.readings.proofs.Computing.{full-right, guarded-right, settled-right}
 use Rattle.readings.proofs.Stopping as ends
-use Rattle.readings.proofs.Soundly.{sound-reads, sound-between, broken-unsound}
-use Rattle.readings.proofs.Deciding.{answer-once, one-verdict, verdict-right, verdict-once}
+use Rattle.readings.proofs.SoundReadings.{sound-reads, sound-between, broken-unsound}
+use Rattle.readings.proofs.Verdicts.{answer-once, one-verdict, verdict-right, verdict-once}
 
 module _ {B : Book} {lines : List Rule} {facts : Marks} (fit : Fit B lines facts) where
   pub yields-exist-once : Yields-exist-once B lines facts
   yields-exist-once =
       record {
-        full = λ S s. record { it = among (full-of B lines facts S); holds = full-right fit S; only = λ X p. least-unique p (full-right fit S) };
-        guarded = λ S s. record { it = among (guarded-of B lines facts S); holds = guarded-right fit S; only = λ X p. least-unique p (guarded-right fit S) };
+        full = λ S. record { it = among (full-of B lines facts S); holds = full-right fit S; only = λ X p. least-unique p (full-right fit S) };
+        guarded = λ S. record { it = among (guarded-of B lines facts S); holds = guarded-right fit S; only = λ X p. least-unique p (guarded-right fit S) };
       }
 
   pub yields-fall : Yields-fall B lines facts
   yields-fall =
       record {
-        full = λ S S′ X X′ s′. full-falls fit S S′;
+        full = λ S S′ X X′. full-falls fit S S′;
         guarded = λ S S′ X X′. guarded-falls fit S S′;
         within = λ S X Y. guarded-within-full fit;
       }
 
-  pub first-method-reaches-it : First-method-reaches-it B lines facts
-  first-method-reaches-it =
+  pub first-method-finds-it : First-method-finds-it B lines facts
+  first-method-finds-it =
       record {
         grows = λ k T U T′ U′ run r. moves fit run r .0;
         shrinks = λ k T U T′ U′ run r. moves fit run r .1;
@@ -51,17 +52,18 @@ module _ {B : Book} {lines : List Rule} {facts : Marks} (fit : Fit B lines facts
   pub methods-agree : Methods-agree B lines facts
   methods-agree =
       record {
-        first-second = λ k T U. two.first-second fit;
-        second-first = λ k T F. two.second-first fit;
+        grows = λ T F T′ F′ s. (s .grown .around, λ m t. within-same (sym (s .joined)) m (or-left (F m) (outside (B .width) (s .kept) m) t));
+        second-as-first = λ k T F. two.second-first fit;
+        first-as-second = λ k T U. two.first-second fit;
         stop = λ j k n T U. ends.stop fit j k;
-        same = λ j k n n′ T U T′ U′. ends.stops-once fit j k;
+        end = λ j k n n′ T U T′ U′. ends.stops-once fit j k;
         verdict = λ j k n n′ T U T′ U′ v v′ s s′ a b.
-          let e = ends.stops-once fit j k s s′ in
-          one-verdict B lines facts T U v v′ a (subst₂ (λ (X Y : Marks). the-verdict v′ .says B lines facts X Y) (sym (e .1)) (sym (e .2)) b);
+            let e = ends.stops-once fit j k s s′ in
+            one-verdict B lines facts T U v v′ a (subst₂ (λ (X Y : Marks). the-verdict v′ .says B lines facts X Y) (sym (e .1)) (sym (e .2)) b);
       }
 
-  pub sound-readings-agree : Sound-readings-agree B lines facts
-  sound-readings-agree =
+  pub answers-are-sound : Answers-are-sound B lines facts
+  answers-are-sound =
       record {
         reading = λ M. sound-reads fit;
         holds = λ T U m p h M s. sound-between fit p s .0 m (h .0);

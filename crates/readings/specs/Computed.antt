@@ -78,8 +78,8 @@ module _ (B : Book) (lines : List Rule) (facts : Marks) where
       let T′ = full-of (among U) in
       let U′ = guarded-of (among T′) in
       elim (agree (B .width) (among T) (among T′) && agree (B .width) (among U) (among U′)) [
-        true ↦ (suc k, T, U)
-      | false ↦ settle-from more (suc k) T′ U′
+        | true ↦ (suc k, T, U)
+        | false ↦ settle-from more (suc k) T′ U′
       ]
 
   abbrev pub settled-of : ℕ × List ℕ × List ℕ

@@ -4,6 +4,6 @@ pub mod Yields
 pub mod Readings
 pub mod Methods
 pub mod Says
-pub mod Founded
+pub mod WellFounded
 pub mod Computed
 pub mod Theorems

@@ -1,5 +1,5 @@
 // What is proved of readings: each function's contract is a theorem, and the function does nothing.
-ghost use Rattle.readings.specs.Theorems.{Always, Yields-exist-once, Yields-fall, One-least-reading, First-method-reaches-it, Methods-stop, Methods-agree, Sound-readings-agree, Broken-is-a-clash, Says-one-thing, Relations-decide, Computed-right, Bare-book-is-well-founded};
+ghost use Rattle.readings.specs.Theorems.{Always, Yields-exist-once, Yields-fall, One-least-reading, First-method-finds-it, Methods-stop, Methods-agree, Answers-are-sound, Broken-is-a-clash, Says-one-thing, Relations-decide, Computed-right, Bare-book-is-well-founded};
 
 pub fn yields_exist_once()
     ensures { λ _. ⌜ Always Yields-exist-once ⌝ }
@@ -13,8 +13,8 @@ pub fn one_least_reading()
     ensures { λ _. ⌜ Always One-least-reading ⌝ }
 {}
 
-pub fn first_method_reaches_it()
-    ensures { λ _. ⌜ Always First-method-reaches-it ⌝ }
+pub fn first_method_finds_it()
+    ensures { λ _. ⌜ Always First-method-finds-it ⌝ }
 {}
 
 pub fn methods_stop()
@@ -25,8 +25,8 @@ pub fn methods_agree()
     ensures { λ _. ⌜ Always Methods-agree ⌝ }
 {}
 
-pub fn sound_readings_agree()
-    ensures { λ _. ⌜ Always Sound-readings-agree ⌝ }
+pub fn answers_are_sound()
+    ensures { λ _. ⌜ Always Answers-are-sound ⌝ }
 {}
 
 pub fn broken_is_a_clash()

@@ -1,4 +1,4 @@
-use Rattle.readings.proofs.Founding.{bare-lawful, reading-model, one-model}
+use Rattle.readings.proofs.WellFounded.{bare-lawful, reading-model, one-model}
 use Rattle.readings.proofs.theorems.bare_book_is_well_founded.Needs as need
 
 pub returns : need.returns

@@ -1,4 +1,4 @@
-use Rattle.readings.proofs.Breaking.{broken-is-clash}
+use Rattle.readings.proofs.BrokenSheets.{broken-is-clash}
 use Rattle.readings.proofs.theorems.broken_is_a_clash.Needs as need
 
 pub returns : need.returns

@@ -25,8 +25,8 @@ module _ {B : Book} {lines : List Rule} {facts : Marks} (fit : Fit B lines facts
       meet-right X Z m
       (f .least (X ∩ Z) (λ n u. zw n (meet-right X Z n u)) (none-within (X ∩ Z)) (meet-closed B (fit .lawful) X Z (f .of-width) zw (f .closed) zc)
       (λ r a c.
-        let h : r .head ∈ X = f .heads r a (λ k j. meet-left X Z k (c k j)) in
-        both (X (r .head)) (Z (r .head)) h (zh r a (λ k j. meet-right X Z k (c k j)) h))
+      let h : r .head ∈ X = f .heads r a (λ k j. meet-left X Z k (c k j)) in
+      both (X (r .head)) (Z (r .head)) h (zh r a (λ k j. meet-right X Z k (c k j)) h))
       m t)
 
   -- a rule with its head in T′ is allowed at T within T′, where the book does not clash at T′
@@ -50,24 +50,27 @@ module _ {B : Book} {lines : List Rule} {facts : Marks} (fit : Fit B lines facts
   clash-if-broken {T} p (inl c) = fit .lawful .clash-grows no-marks T (none-within _) (p .reading .full .of-width) (none-within T) c
   clash-if-broken {T} {U} p (inr b) =
       elim (decide (B .clash T)) [
-        inl c ↦ c
-      | inr n ↦ absurd (b .1 .1 (T-within-U (least-run fit p .1) n (b .0) (b .1 .0)))
+        | inl c ↦ c
+        | inr n ↦ absurd (b .1 .1 (T-within-U (least-run fit p .1) n (b .0) (b .1 .0)))
       ]
 
   -- where the book clashes at T, T is all marks, and it denies every head there, so that U is the closure of nothing
   broken-if-clash : {T U : Marks} → Least-reading B lines facts T U → Clashes B T → Is-broken B T U
   broken-if-clash {T} {U} p c =
       elim (within-or-lacks (B .width) (below (B .width)) U (λ m t. t)) [
-        inr l ↦ inr (l .0, (all (l .0) (l .1), l .2))
-      | inl a ↦ inl (fit .lawful .clash-comes-back no-marks (none-within _) (fit .lawful .clash-grows T (B .closure no-marks) w none-width (λ m t. U-within m (a m (w m t))) c))
+        | inr l ↦ inr (l .0, (all (l .0) (l .1), l .2))
+        | inl a ↦ inl (fit .lawful .clash-comes-back no-marks (none-within _) (fit .lawful .clash-grows T (B .closure no-marks) w none-width (λ m t. U-within m (a m (w m t))) c))
       ]
     where
       w : Of-width (B .width) T
       w = p .reading .full .of-width
+
       none-width : Of-width (B .width) (B .closure no-marks)
       none-width = fit .lawful .of-width no-marks (none-within _)
+
       all : below (B .width) ⊆ T
       all = within-same (sym (fit .lawful .clash-gives-all T w c) ∙ p .reading .full .closed)
+
       U-within : U ⊆ B .closure no-marks
       U-within =
           p .reading .guarded .least (B .closure no-marks) none-width (none-within _) (fit .lawful .idempotent no-marks (none-within _))

@@ -17,7 +17,7 @@ module _ (w : ℕ) (lines : List Rule) (facts : Marks) where
   Unfounded T F X = (r : Rule) → Counts lines facts r → r .head ∈ X → Some-in (r .conditions) (F ∪ X) ⊎ Some-in (r .exceptions) T
 
   -- T has the head of each rule whose conditions are in T and whose exceptions are in F, and F has every unfounded set
-  pub record Closed-pair (T F : Marks) : Type 0 where
+  pub record Founded-pair (T F : Marks) : Type 0 where
     pub T-of-width : Of-width w T
     pub F-of-width : Of-width w F
     pub heads : (r : Rule) → Counts lines facts r → All-in (r .conditions) T → All-in (r .exceptions) F → r .head ∈ T
@@ -25,5 +25,5 @@ module _ (w : ℕ) (lines : List Rule) (facts : Marks) where
 
   -- The well-founded model is the least such pair.
   pub record Well-founded-model (T F : Marks) : Type 0 where
-    pub pair : Closed-pair T F
-    pub least : (T′ F′ : Marks) → Closed-pair T′ F′ → (T ⊆ T′) × (F ⊆ F′)
+    pub pair : Founded-pair T F
+    pub least : (T′ F′ : Marks) → Founded-pair T′ F′ → (T ⊆ T′) × (F ⊆ F′)

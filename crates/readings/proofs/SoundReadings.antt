@@ -19,26 +19,26 @@ module _ {B : Book} {lines : List Rule} {facts : Marks} (fit : Fit B lines facts
       record {
         full = f;
         guarded =
-          record {
-            of-width = f .of-width;
-            around = none-within M;
-            closed = f .closed;
-            heads = λ r a. f .heads r (a .admitted);
-            least = λ Z zw za zc zh m t.
-              meet-left Z M m
-              (f .least (Z ∩ M) (λ n u. zw n (meet-left Z M n u)) (none-within (Z ∩ M)) (meet-closed B (fit .lawful) Z M zw (f .of-width) zc (f .closed))
-              (λ r a c.
-                let h : r .head ∈ M = f .heads r a (λ k j. meet-right Z M k (c k j)) in
-                both (Z (r .head)) (M (r .head))
-                (zh r
-                (record {
-                  admitted = a;
-                  head = λ d. s .no-clash (fit .lawful .clash-grows _ M (with-head fit M (a .counts) (f .of-width)) (f .of-width) (with-within M M (r .head) h (λ k u. u)) d);
-                })
-                (λ k j. meet-left Z M k (c k j)))
-                h)
-              m t);
-          };
+            record {
+              of-width = f .of-width;
+              around = none-within M;
+              closed = f .closed;
+              heads = λ r a. f .heads r (a .admitted);
+              least = λ Z zw za zc zh m t.
+                  meet-left Z M m
+                  (f .least (Z ∩ M) (λ n u. zw n (meet-left Z M n u)) (none-within (Z ∩ M)) (meet-closed B (fit .lawful) Z M zw (f .of-width) zc (f .closed))
+                  (λ r a c.
+                  let h : r .head ∈ M = f .heads r a (λ k j. meet-right Z M k (c k j)) in
+                  both (Z (r .head)) (M (r .head))
+                  (zh r
+                  (record {
+                    admitted = a;
+                    head = λ d. s .no-clash (fit .lawful .clash-grows _ M (with-head fit M (a .counts) (f .of-width)) (f .of-width) (with-within M M (r .head) h (λ k u. u)) d);
+                  })
+                  (λ k j. meet-left Z M k (c k j)))
+                  h)
+                  m t);
+            };
       }
     where
       f : Full B lines facts M M

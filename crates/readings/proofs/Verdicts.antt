@@ -21,7 +21,7 @@ use Rattle.readings.proofs.Sets.{decide}
 use Rattle.readings.proofs.Closing.{least-unique}
 use Rattle.readings.proofs.Listing.{agree-same, same-agree}
 use Rattle.readings.proofs.Computing.{full-right, guarded-right}
-use Rattle.readings.proofs.Breaking.{broken-is-clash}
+use Rattle.readings.proofs.BrokenSheets.{broken-is-clash}
 
 one-answer : (X U : Marks) (m : ℕ) (a b : Answer) → the-answer a .says X U m → the-answer b .says X U m → a ≡ b
 one-answer X U m Not Not p q = refl
@@ -46,6 +46,7 @@ answer-once X U m = go (decide (X m)) (decide (U m))
   where
     one : (b : Answer) → the-answer b .says X U m → Exactly-one (λ (a : Answer). the-answer a .says X U m)
     one b h = record { it = b; holds = h; only = λ a p. one-answer X U m a b p h }
+
     go : (m ∈ X) ⊎ (m ∈ X → ⊥) → (m ∈ U) ⊎ (m ∈ U → ⊥) → Exactly-one (λ (a : Answer). the-answer a .says X U m)
     go (inl x) (inl u) = one Holds (x, u)
     go (inl x) (inr u) = one Both (x, u)
@@ -74,27 +75,31 @@ module _ {B : Book} {lines : List Rule} {facts : Marks} (fit : Fit B lines facts
     where
       full : Marks
       full = among (full-of B lines facts X)
+
       guarded : Marks
       guarded = among (guarded-of B lines facts X)
+
       go : (b s : Bool) → (T b → Clashes B X) → (Clashes B X → T b) → (T s → T (agree (B .width) full guarded)) → (T (agree (B .width) full guarded) → T s)
           → the-verdict (verdict-by b s) .says B lines facts X U
       go true s b _ i j = broken-is-clash fit p .1 (b tt)
-      go false true _ c i j =
-          (λ b. c (broken-is-clash fit p .0 b),
-            record {
-              yield = full;
-              full = full-right fit X;
-              guarded = subst (Guarded B lines facts X) (sym (agree-same (B .width) full guarded (full-right fit X .of-width) (guarded-right fit X .of-width) (i tt))) (guarded-right fit X);
-            })
-      go false false _ c i j =
-          (λ b. c (broken-is-clash fit p .0 b),
-            record {
-              full-yield = full;
-              guarded-yield = guarded;
-              full = full-right fit X;
-              guarded = guarded-right fit X;
-              differ = λ e. j (same-agree (B .width) full guarded e);
-            })
+      go false true _ c i j = (
+        λ b. c (broken-is-clash fit p .0 b),
+        record {
+          yield = full;
+          full = full-right fit X;
+          guarded = subst (Guarded B lines facts X) (sym (agree-same (B .width) full guarded (full-right fit X .of-width) (guarded-right fit X .of-width) (i tt))) (guarded-right fit X);
+        },
+      )
+      go false false _ c i j = (
+        λ b. c (broken-is-clash fit p .0 b),
+        record {
+          full-yield = full;
+          guarded-yield = guarded;
+          full = full-right fit X;
+          guarded = guarded-right fit X;
+          differ = λ e. j (same-agree (B .width) full guarded e);
+        },
+      )
 
   pub verdict-once : (X U : Marks) → Least-reading B lines facts X U → Exactly-one (λ (v : Verdict). the-verdict v .says B lines facts X U)
   verdict-once X U p =
