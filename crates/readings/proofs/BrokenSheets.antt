@@ -1,18 +1,18 @@
 -- Facts are broken exactly when the book clashes at T: while it does not, T lies within U.
 use mathlib.Core.List.{List}
-use mathlib.Core.Logic.{_⊎_, _↔_, inl, inr}
-use mathlib.Core.Path.{_≡_, sym, _∙_}
+use mathlib.Core.Logic.{_↔_, inl, inr}
+use mathlib.Core.Path.{sym, _∙_}
 use Prim.Native.Nat.{ℕ}
 use Rattle.marks.specs.Sets.{Marks, _∈_, _⊆_, below, no-marks, Of-width, _∩_}
 use Rattle.readings.specs.Books.{Book, Clashes, Closed}
-use Rattle.readings.specs.Rules.{Rule, Fit, All-in, None-in}
-use Rattle.readings.specs.Yields.{Admitted, Allowed, Full, Guarded}
+use Rattle.readings.specs.Rules.{Rule, Fit, All-in}
+use Rattle.readings.specs.Yields.{Admitted, Allowed, Full}
 use Rattle.readings.specs.Readings.{Least-reading}
-use Rattle.readings.specs.Methods.{Run, start, round, First-round, first-method}
+use Rattle.readings.specs.Methods.{Run, start, round, first-method}
 use Rattle.readings.specs.Says.{Is-broken}
 use Rattle.readings.proofs.Sets.{both, meet-left, meet-right, within-same, with-old, with-within, within-or-lacks, decide}
 use Rattle.readings.proofs.Closing.{none-within, meet-closed}
-use Rattle.readings.proofs.Yields.{head-within, with-head}
+use Rattle.readings.proofs.Yields.{with-head}
 use Rattle.readings.proofs.FirstRounds.{T-width, U-width, moves}
 use Rattle.readings.proofs.SecondRounds.{U-closed, U-heads}
 use Rattle.readings.proofs.Stopping.{least-run}
@@ -30,7 +30,8 @@ module _ {B : Book} {lines : List Rule} {facts : Marks} (fit : Fit B lines facts
       m t)
 
   -- a rule with its head in T′ is allowed at T within T′, where the book does not clash at T′
-  allowed-at : (T T′ S : Marks) {r : Rule} → Of-width (B .width) T′ → T ⊆ T′ → T ⊆ S → (Clashes B T′ → ⊥) → Admitted lines facts S r → r .head ∈ T′ → Allowed B lines facts T r
+  allowed-at : (T T′ S : Marks) {r : Rule} → Of-width (B .width) T′ → T ⊆ T′ → T ⊆ S → (Clashes B T′ → ⊥)
+      → Admitted lines facts S r → r .head ∈ T′ → Allowed B lines facts T r
   allowed-at T T′ S {r} w t s n a h =
       record {
         admitted = record { counts = a .counts; exceptions = λ m j u. a .exceptions m j (s m u) };

@@ -1,10 +1,9 @@
 -- Closed sets of a lawful book, and the least closed sets with the heads of some rules.
-use mathlib.Core.Path.{_≡_, sym}
-use Prim.Native.Nat.{ℕ}
-use Rattle.marks.specs.Sets.{Marks, _∈_, _⊆_, below, no-marks, Of-width, _∩_}
+use mathlib.Core.Path.{_≡_}
+use Rattle.marks.specs.Sets.{Marks, _⊆_, below, no-marks, Of-width, _∩_}
 use Rattle.readings.specs.Books.{Book, Lawful, Closed}
 use Rattle.readings.specs.Rules.{Rule}
-use Rattle.readings.specs.Yields.{Least-closed, Has-heads}
+use Rattle.readings.specs.Yields.{Least-closed}
 use Rattle.readings.proofs.Sets.{same, both, within-same, meet-left, meet-right}
 
 pub none-within : (X : Marks) → no-marks ⊆ X
@@ -26,14 +25,16 @@ module _ (B : Book) (law : Lawful B) where
       w m t = x m (meet-left X Y m t)
 
 -- more rules and a greater start give a greater set
-pub least-within : {B : Book} {A A′ : Marks} {P Q : Rule → Type 0} {X Y : Marks} → A ⊆ Y → ((r : Rule) → P r → Q r) → Least-closed B A P X → Least-closed B A′ Q Y → X ⊆ Y
+pub least-within : {B : Book} {A A′ : Marks} {P Q : Rule → Type 0} {X Y : Marks} → A ⊆ Y → ((r : Rule) → P r → Q r)
+    → Least-closed B A P X → Least-closed B A′ Q Y → X ⊆ Y
 least-within {Y = Y} a f p q = p .least Y (q .of-width) a (q .closed) (λ r i. q .heads r (f r i))
 
 pub least-unique : {B : Book} {A : Marks} {P : Rule → Type 0} {X Y : Marks} → Least-closed B A P X → Least-closed B A P Y → X ≡ Y
 least-unique p q = same (least-within (q .around) (λ r i. i) p q) (least-within (p .around) (λ r i. i) q p)
 
 -- the same rules under another description
-pub least-by : {B : Book} {A : Marks} {P Q : Rule → Type 0} {X : Marks} → ((r : Rule) → P r → Q r) → ((r : Rule) → Q r → P r) → Least-closed B A P X → Least-closed B A Q X
+pub least-by : {B : Book} {A : Marks} {P Q : Rule → Type 0} {X : Marks} → ((r : Rule) → P r → Q r) → ((r : Rule) → Q r → P r)
+    → Least-closed B A P X → Least-closed B A Q X
 least-by to from p =
     record {
       of-width = p .of-width;

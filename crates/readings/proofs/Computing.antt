@@ -1,7 +1,7 @@
 -- The computed yields are the yields, and the computed end of the first method is its end.
 use mathlib.Core.Bool.{Bool, true, false, _&&_, not}
 use mathlib.Core.List.{List, [], map, List·Memᴰ, Memᴰ·append-left, Memᴰ·append-right, List·Memᴰ·append-cases, Memᴰ·map, Memᴰ·of-map}
-use mathlib.Core.Logic.{_⊎_, inl, inr}
+use mathlib.Core.Logic.{inl, inr}
 use mathlib.Core.Path.{_≡_, refl, subst, subst₂, sym}
 use Prim.Native.Nat.{ℕ, zero, suc, _+_, _<_, _≤_}
 use native.Mathlib.Nat.{eq-or-lt-of-le, le-of-suc-le-suc, not-suc-le-zero}
@@ -13,13 +13,13 @@ use Rattle.readings.specs.Rules.{Rule, Counts, line, stands, fact, Fit}
 use Rattle.readings.specs.Yields.{Full, Guarded}
 use Rattle.readings.specs.Methods.{Run, start, round, First-round, first-method, Stops}
 use Rattle.readings.specs.Computed.{listed, among, agree, has-none, all-rules, full-of, guarded-of, settle-from, settled-of}
-use Rattle.readings.proofs.Sets.{both, left, right, within-same, decide}
+use Rattle.readings.proofs.Sets.{both, left, right, within-same}
 use Rattle.readings.proofs.Closing.{none-within, least-unique, least-by}
 use Rattle.readings.proofs.Yields.{head-within}
 use Rattle.readings.proofs.FirstRounds.{T-width, U-width, run-unique}
 use Rattle.readings.proofs.Bound.{rests}
 use Rattle.readings.proofs.Listing.{in-among, among-in, among-listed, agree-same, same-agree, has-none-in, in-has-none}
-use Rattle.readings.proofs.Filling.{Passing, filled-least}
+use Rattle.readings.proofs.Filling.{filled-least}
 
 -- what is computed stops there, in at most so many rounds
 pub record Ends (B : Book) (lines : List Rule) (facts : Marks) (bound : ℕ) (e : ℕ × List ℕ × List ℕ) : Type 0 where
@@ -70,7 +70,8 @@ module _ {B : Book} {lines : List Rule} {facts : Marks} (fit : Fit B lines facts
       (filled-least B (fit .lawful) (all-rules (B .width) lines facts) heads-within (λ r. not (d r) && n r) [] (none-within _))
 
   -- the computed round
-  pub next : (U : Marks) → First-round B lines facts U (among (full-of B lines facts U)) (among (guarded-of B lines facts (among (full-of B lines facts U))))
+  pub next : (U : Marks)
+      → First-round B lines facts U (among (full-of B lines facts U)) (among (guarded-of B lines facts (among (full-of B lines facts U))))
   next U = record { full = full-right U; guarded = guarded-right (among (full-of B lines facts U)) }
 
   abbrev Unrested : ℕ → Type 0
@@ -118,7 +119,8 @@ module _ {B : Book} {lines : List Rule} {facts : Marks} (fit : Fit B lines facts
               changes (both (agree (B .width) (among ts) T⁺) (agree (B .width) (among us) U⁺) (same-agree (B .width) (among ts) T⁺ t) (same-agree (B .width) (among us) U⁺ u))
         ]
 
-  settle-right : (more k : ℕ) (ts us : List ℕ) → Run (first-method B lines facts) k (among ts) (among us) → Unrested k → more + k ≡ suc (B .width)
+  settle-right : (more k : ℕ) (ts us : List ℕ) → Run (first-method B lines facts) k (among ts) (among us) → Unrested k
+      → more + k ≡ suc (B .width)
       → Ends B lines facts (B .width + 2) (settle-from B lines facts more k ts us)
   settle-right zero k ts us run first e =
       let late : B .width < k = omega arith in

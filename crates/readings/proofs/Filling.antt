@@ -1,7 +1,7 @@
 -- Adding heads and closing, as often as the width says, makes the least closed set with the heads of the rules that pass a test.
-use mathlib.Core.Bool.{Bool, true, false, _&&_, _||_}
+use mathlib.Core.Bool.{Bool, _&&_}
 use mathlib.Core.List.{List, [], _∷_, List·Memᴰ, List·Memᴰ·head, List·Memᴰ·tail, List·Memᴰ·not-nil, List·Memᴰ·cases-cons}
-use mathlib.Core.Logic.{_⊎_, inl, inr}
+use mathlib.Core.Logic.{inl, inr}
 use mathlib.Core.Path.{_≡_, refl, subst, sym, ap, _∙_}
 use Prim.Native.Nat.{ℕ, zero, suc}
 use lib.Dec.{T, eqb, eqb→eq, eqb-refl}
@@ -9,7 +9,7 @@ use Rattle.marks.specs.Sets.{Marks, _∈_, _⊆_, below, Of-width, _∪_}
 use Rattle.readings.specs.Books.{Book, Lawful, Closed}
 use Rattle.readings.specs.Rules.{Rule, All-in}
 use Rattle.readings.specs.Yields.{Has-heads, Least-closed}
-use Rattle.readings.specs.Computed.{listed, among, has-all, fired, filled}
+use Rattle.readings.specs.Computed.{among, has-all, fired, filled}
 use Rattle.readings.proofs.Sets.{both, left, right, or-left, or-right, or-cases, join-within, within-same}
 use Rattle.readings.proofs.Sizes.{iterate, iterate-width, iterate-around, at-rest}
 use Rattle.readings.proofs.Closing.{closed-if}
@@ -83,10 +83,12 @@ module _ (B : Book) (law : Lawful B) (rules : List Rule) (within : (r : Rule) �
   step-adds : (X : Marks) → Of-width (B .width) X → X ⊆ step X
   step-adds X x m t = law .extensive (adding X) (adding-width X x) m (or-left (X m) (fired passes rules X m) t)
 
-  step-heads : (X : Marks) → Of-width (B .width) X → (r : Rule) → Passing rules passes r → All-in (r .conditions) X → r .head ∈ step X
+  step-heads : (X : Marks) → Of-width (B .width) X → (r : Rule) → Passing rules passes r → All-in (r .conditions) X
+      → r .head ∈ step X
   step-heads X x r p c = law .extensive (adding X) (adding-width X x) (r .head) (or-right (X (r .head)) (fired passes rules X (r .head)) (fires passes X rules r p c))
 
-  step-within : (X Z : Marks) → Of-width (B .width) X → Of-width (B .width) Z → X ⊆ Z → Closed B Z → Has-heads (Passing rules passes) Z → step X ⊆ Z
+  step-within : (X Z : Marks) → Of-width (B .width) X → Of-width (B .width) Z → X ⊆ Z → Closed B Z
+      → Has-heads (Passing rules passes) Z → step X ⊆ Z
   step-within X Z x z s zc zh m t = within-same zc m (law .monotone (adding X) Z (adding-width X x) z (adding-within X Z s zh) m t)
 
   step-grows : (X Y : Marks) → Of-width (B .width) X → Of-width (B .width) Y → X ⊆ Y → step X ⊆ step Y
@@ -105,7 +107,8 @@ module _ (B : Book) (law : Lawful B) (rules : List Rule) (within : (r : Rule) �
     after-width : (n : ℕ) → Of-width (B .width) (after n)
     after-width = iterate-width (B .width) step step-width step-adds step-grows A a
 
-    after-within : (Z : Marks) → Of-width (B .width) Z → A ⊆ Z → Closed B Z → Has-heads (Passing rules passes) Z → (n : ℕ) → after n ⊆ Z
+    after-within : (Z : Marks) → Of-width (B .width) Z → A ⊆ Z → Closed B Z → Has-heads (Passing rules passes) Z → (n : ℕ)
+        → after n ⊆ Z
     after-within Z z s zc zh zero = s
     after-within Z z s zc zh (suc n) = step-within (after n) Z (after-width n) z (after-within Z z s zc zh n) zc zh
 

@@ -1,13 +1,13 @@
 -- Sets written down as lists, and tests on them.
-use mathlib.Core.Bool.{Bool, true, false, not, _&&_, _||_}
+use mathlib.Core.Bool.{Bool, true, false, not}
 use mathlib.Core.List.{List, [], _∷_, List·Memᴰ, List·Memᴰ·head, List·Memᴰ·tail, List·Memᴰ·not-nil, List·Memᴰ·cases-cons}
 use mathlib.Core.Logic.{_⊎_, inl, inr}
 use mathlib.Core.Path.{_≡_, refl, subst, sym}
 use Prim.Native.Nat.{ℕ, zero, suc, _<_}
-use native.Mathlib.Nat.{not-suc-le-zero, eq-or-lt-of-le, le-of-suc-le-suc, le-refl}
+use native.Mathlib.Nat.{not-suc-le-zero, eq-or-lt-of-le, le-of-suc-le-suc}
 use native.Mathlib.Omega.{arith}
 use lib.Dec.{T, eqb, eqb→eq, eqb-refl, ltb→lt, lt→ltb, T-not, not-T}
-use Rattle.marks.specs.Sets.{Marks, _∈_, _⊆_, below, Of-width}
+use Rattle.marks.specs.Sets.{Marks, _∈_, _⊆_, Of-width}
 use Rattle.readings.specs.Rules.{All-in, None-in}
 use Rattle.readings.specs.Computed.{keep, listed, among, same-bit, agree, has-all, has-none}
 use Rattle.readings.proofs.Sets.{both, left, right, or-left, or-right, or-cases, same}

@@ -1,16 +1,15 @@
 -- The rounds of the second method go through the pairs of the first.
 use mathlib.Core.Bool.{Bool, true, false, _&&_, _||_, not, and-true}
 use mathlib.Core.List.{List}
-use mathlib.Core.Logic.{inl, inr}
 use mathlib.Core.Path.{_≡_, refl, subst, sym, ap, fun-ext, _∙_}
 use Prim.Native.Nat.{ℕ}
 use lib.Dec.{T}
-use Rattle.marks.specs.Sets.{Marks, _∈_, _⊆_, below, no-marks, Of-width, _∪_, _∩_, outside}
+use Rattle.marks.specs.Sets.{Marks, _⊆_, below, no-marks, Of-width, _∪_, _∩_, outside}
 use Rattle.readings.specs.Books.{Book, Closed}
 use Rattle.readings.specs.Rules.{Rule, Counts, Fit, All-in, None-in}
 use Rattle.readings.specs.Yields.{Has-heads, Least-closed, Admitted, Allowed, Full, Guarded}
 use Rattle.readings.specs.Methods.{Run, start, round, First-round, first-method, Past-exceptions, Not-refuted, Second-round, second-method}
-use Rattle.readings.proofs.Sets.{same, both, or-left, or-cases, join-within, meet-left, meet-right, less-left, less-out, not-outside}
+use Rattle.readings.proofs.Sets.{same, both, or-left, join-within, meet-left, meet-right, less-left, less-out, not-outside}
 use Rattle.readings.proofs.Closing.{none-within, all-closed, meet-closed}
 use Rattle.readings.proofs.Yields.{counts-within, head-within, admitted-falls, allowed-falls}
 use Rattle.readings.proofs.FirstRounds.{U-width, moves}
@@ -30,7 +29,8 @@ upper-joined w F Y y = fun-ext (λ m. drop-to (below w m) (F m) (Y m) (y m))
 
 module _ {B : Book} {lines : List Rule} {facts : Marks} (fit : Fit B lines facts) where
   -- T lies within each closed set that has the heads at U
-  T-within : {k : ℕ} {T U : Marks} → Run (first-method B lines facts) k T U → (Z : Marks) → Of-width (B .width) Z → Closed B Z → Has-heads (Admitted lines facts U) Z → T ⊆ Z
+  T-within : {k : ℕ} {T U : Marks} → Run (first-method B lines facts) k T U → (Z : Marks) → Of-width (B .width) Z → Closed B Z
+      → Has-heads (Admitted lines facts U) Z → T ⊆ Z
   T-within start Z zw zc zh = none-within Z
   T-within (round run r) Z zw zc zh = r .full .least Z zw (none-within Z) zc (λ q a. zh q (admitted-falls _ (moves fit run r .1) a))
 
@@ -38,7 +38,8 @@ module _ {B : Book} {lines : List Rule} {facts : Marks} (fit : Fit B lines facts
   U-closed start = all-closed B (fit .lawful)
   U-closed (round run r) = r .guarded .closed
 
-  pub U-heads : {k : ℕ} {T U : Marks} (T′ : Marks) → Of-width (B .width) T′ → Run (first-method B lines facts) k T U → T ⊆ T′ → Has-heads (Allowed B lines facts T′) U
+  pub U-heads : {k : ℕ} {T U : Marks} (T′ : Marks) → Of-width (B .width) T′ → Run (first-method B lines facts) k T U → T ⊆ T′
+      → Has-heads (Allowed B lines facts T′) U
   U-heads T′ w start t r a c = head-within fit (a .admitted .counts)
   U-heads T′ w (round run q) t r a c = q .guarded .heads r (allowed-falls fit _ T′ w t a) c
 
@@ -55,7 +56,8 @@ module _ {B : Book} {lines : List Rule} {facts : Marks} (fit : Fit B lines facts
   allowed : (F T : Marks) {r : Rule} → Not-refuted B lines facts F T r → Allowed B lines facts T r
   allowed F T n = record { admitted = record { counts = n .counts; exceptions = n .exceptions }; head = n .head }
 
-  not-refuted : (F T Y : Marks) {r : Rule} → Y ⊆ outside (B .width) F → All-in (r .conditions) Y → Allowed B lines facts T r → Not-refuted B lines facts F T r
+  not-refuted : (F T Y : Marks) {r : Rule} → Y ⊆ outside (B .width) F → All-in (r .conditions) Y → Allowed B lines facts T r
+      → Not-refuted B lines facts F T r
   not-refuted F T Y y c a =
       record {
         counts = a .admitted .counts;
@@ -66,7 +68,8 @@ module _ {B : Book} {lines : List Rule} {facts : Marks} (fit : Fit B lines facts
 
   -- one round, from a pair that the first method has reached
   module _ {k : ℕ} {T : Marks} (F : Marks) (run : Run (first-method B lines facts) k T (outside (B .width) F)) where
-    grown-full : {T′ : Marks} → Least-closed B T (Past-exceptions B lines facts F) T′ → Full B lines facts (outside (B .width) F) T′
+    grown-full : {T′ : Marks} → Least-closed B T (Past-exceptions B lines facts F) T′
+        → Full B lines facts (outside (B .width) F) T′
     grown-full g =
         record {
           of-width = g .of-width;
@@ -76,7 +79,8 @@ module _ {B : Book} {lines : List Rule} {facts : Marks} (fit : Fit B lines facts
           least = λ Z zw za zc zh. g .least Z zw (T-within run Z zw zc zh) zc (λ r p. zh r (not-past F p));
         }
 
-    full-grown : {T′ : Marks} → Full B lines facts (outside (B .width) F) T′ → Least-closed B T (Past-exceptions B lines facts F) T′
+    full-grown : {T′ : Marks} → Full B lines facts (outside (B .width) F) T′
+        → Least-closed B T (Past-exceptions B lines facts F) T′
     full-grown p =
         record {
           of-width = p .of-width;
@@ -86,12 +90,14 @@ module _ {B : Book} {lines : List Rule} {facts : Marks} (fit : Fit B lines facts
           least = λ Z zw za zc zh. p .least Z zw (none-within Z) zc (λ r a. zh r (past F a));
         }
 
-    kept-outside : {T′ Y : Marks} → Of-width (B .width) T′ → T ⊆ T′ → Least-closed B no-marks (Not-refuted B lines facts F T′) Y → Y ⊆ outside (B .width) F
+    kept-outside : {T′ Y : Marks} → Of-width (B .width) T′ → T ⊆ T′ → Least-closed B no-marks (Not-refuted B lines facts F T′) Y
+        → Y ⊆ outside (B .width) F
     kept-outside {T′} w t y =
         y .least (outside (B .width) F) (U-width run) (none-within (outside (B .width) F)) (U-closed run)
         (λ r n c. U-heads T′ w run t r (allowed F T′ n) c)
 
-    kept-guarded : {T′ Y : Marks} → Y ⊆ outside (B .width) F → Least-closed B no-marks (Not-refuted B lines facts F T′) Y → Guarded B lines facts T′ Y
+    kept-guarded : {T′ Y : Marks} → Y ⊆ outside (B .width) F → Least-closed B no-marks (Not-refuted B lines facts F T′) Y
+        → Guarded B lines facts T′ Y
     kept-guarded {T′} {Y} o y =
         record {
           of-width = y .of-width;
@@ -101,7 +107,8 @@ module _ {B : Book} {lines : List Rule} {facts : Marks} (fit : Fit B lines facts
           least = λ Z zw za zc zh. y .least Z zw za zc (λ r n c. zh r (allowed F T′ n) c);
         }
 
-    guarded-kept : {T′ Y : Marks} → Y ⊆ outside (B .width) F → Guarded B lines facts T′ Y → Least-closed B no-marks (Not-refuted B lines facts F T′) Y
+    guarded-kept : {T′ Y : Marks} → Y ⊆ outside (B .width) F → Guarded B lines facts T′ Y
+        → Least-closed B no-marks (Not-refuted B lines facts F T′) Y
     guarded-kept {T′} {Y} o p =
         record {
           of-width = p .of-width;
@@ -118,7 +125,8 @@ module _ {B : Book} {lines : List Rule} {facts : Marks} (fit : Fit B lines facts
               m t);
         }
 
-  pub second-first : {k : ℕ} {T F : Marks} → Run (second-method B lines facts) k T F → Run (first-method B lines facts) k T (outside (B .width) F)
+  pub second-first : {k : ℕ} {T F : Marks} → Run (second-method B lines facts) k T F
+      → Run (first-method B lines facts) k T (outside (B .width) F)
   second-first start = subst (Run (first-method B lines facts) 0 no-marks) (fun-ext (λ m. sym (and-true (below (B .width) m)))) start
   second-first (round {V = F} {T′ = T′} {V′ = F′} run s) =
       let before = second-first run in
@@ -127,7 +135,8 @@ module _ {B : Book} {lines : List Rule} {facts : Marks} (fit : Fit B lines facts
       subst (Run (first-method B lines facts) _ T′) e
       (round before (record { full = grown-full F before (s .grown); guarded = kept-guarded F before o (s .keeps) }))
 
-  pub first-second : {k : ℕ} {T U : Marks} → Run (first-method B lines facts) k T U → (F : Marks) × Run (second-method B lines facts) k T F × (U ≡ outside (B .width) F)
+  pub first-second : {k : ℕ} {T U : Marks} → Run (first-method B lines facts) k T U
+      → (F : Marks) × Run (second-method B lines facts) k T F × (U ≡ outside (B .width) F)
   first-second start = (no-marks, start, fun-ext (λ m. sym (and-true (below (B .width) m))))
   first-second (round {k} {T} {V = U} {T′} {V′ = U′} run r) =
       let p = first-second run in

@@ -5,7 +5,7 @@ use mathlib.Core.Logic.{_⊎_, inl, inr}
 use mathlib.Core.Path.{_≡_, refl, fun-ext, subst, sym}
 use Prim.Native.Nat.{ℕ, zero, suc, _<_}
 use native.Mathlib.Nat.{not-suc-le-zero, eq-or-lt-of-le, le-of-suc-le-suc}
-use lib.Dec.{T, eqb, eqb→eq, eqb-refl, ltb→lt, lt→ltb, T-not, not-T}
+use lib.Dec.{T, eqb, eqb→eq, eqb-refl, ltb→lt, T-not, not-T}
 use Rattle.marks.specs.Sets.{Marks, _∈_, _⊆_, below, Of-width, with-mark, _∪_, _∩_, _∖_, outside}
 use Rattle.readings.specs.Rules.{All-in, None-in, Some-in}
 
@@ -126,7 +126,8 @@ pub all-or-lacks : (ms : List ℕ) (S : Marks) → All-in ms S ⊎ ((m : ℕ) ×
 all-or-lacks [] S = inl (λ m i. absurd (List·Memᴰ·not-nil i))
 all-or-lacks (x ∷ xs) S = go (decide (S x)) (all-or-lacks xs S)
   where
-    go : (x ∈ S) ⊎ (x ∈ S → ⊥) → All-in xs S ⊎ ((m : ℕ) × List·Memᴰ m xs × (m ∈ S → ⊥)) → All-in (x ∷ xs) S ⊎ ((m : ℕ) × List·Memᴰ m (x ∷ xs) × (m ∈ S → ⊥))
+    go : (x ∈ S) ⊎ (x ∈ S → ⊥) → All-in xs S ⊎ ((m : ℕ) × List·Memᴰ m xs × (m ∈ S → ⊥))
+        → All-in (x ∷ xs) S ⊎ ((m : ℕ) × List·Memᴰ m (x ∷ xs) × (m ∈ S → ⊥))
     go (inr n) q = inr (x, List·Memᴰ·head refl, n)
     go (inl h) (inr q) = inr (q .0, List·Memᴰ·tail (q .1), q .2)
     go (inl h) (inl q) = inl (λ m i. elim (List·Memᴰ·cases-cons i) [ inl e ↦ subst (λ (j : ℕ). j ∈ S) (sym e) h | inr j ↦ q m j ])

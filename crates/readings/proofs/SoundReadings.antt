@@ -1,11 +1,10 @@
 -- Sound readings lie between the sets of the least reading.
 use mathlib.Core.List.{List}
 use mathlib.Core.Logic.{inl, inr}
-use Prim.Native.Nat.{ℕ}
 use Rattle.marks.specs.Sets.{Marks, _∈_, _⊆_, no-marks, _∩_}
 use Rattle.readings.specs.Books.{Book}
-use Rattle.readings.specs.Rules.{Rule, Fit, All-in}
-use Rattle.readings.specs.Yields.{Full, Guarded}
+use Rattle.readings.specs.Rules.{Rule, Fit}
+use Rattle.readings.specs.Yields.{Full}
 use Rattle.readings.specs.Readings.{Reading, Least-reading, Sound}
 use Rattle.readings.specs.Says.{Is-broken}
 use Rattle.readings.proofs.Sets.{both, meet-left, meet-right, with-within}

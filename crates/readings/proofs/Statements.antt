@@ -1,6 +1,6 @@
 -- The theorems that have several parts, put together from the lemmas.
 use mathlib.Core.List.{List}
-use mathlib.Core.Path.{_≡_, subst₂, sym}
+use mathlib.Core.Path.{subst₂, sym}
 use Rattle.marks.specs.Sets.{Marks, outside}
 use Rattle.readings.specs.Books.{Book}
 use Rattle.readings.specs.Rules.{Rule, Fit}

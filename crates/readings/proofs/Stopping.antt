@@ -1,6 +1,6 @@
 -- Each method stops, both at the same pair and after the same number of rounds; that pair is the least reading.
 use mathlib.Core.List.{List}
-use mathlib.Core.Path.{_≡_, refl, subst, subst₂, sym, ap, _∙_}
+use mathlib.Core.Path.{_≡_, subst, subst₂, sym, ap, _∙_}
 use Prim.Native.Nat.{ℕ, suc, _+_, _<_, _≤_}
 use native.Mathlib.Omega.{arith}
 use Rattle.marks.specs.Sets.{Marks, outside}
@@ -59,7 +59,8 @@ module _ {B : Book} {lines : List Rule} {facts : Marks} (fit : Fit B lines facts
   stop Second First s = to-first s
   stop Second Second s = s
 
-  pub stops-once : (j k : Method) {n n′ : ℕ} {T U T′ U′ : Marks} → Rounds B lines facts j n T U → Rounds B lines facts k n′ T′ U′ → (n ≡ n′) × (T ≡ T′) × (U ≡ U′)
+  pub stops-once : (j k : Method) {n n′ : ℕ} {T U T′ U′ : Marks} → Rounds B lines facts j n T U → Rounds B lines facts k n′ T′ U′
+      → (n ≡ n′) × (T ≡ T′) × (U ≡ U′)
   stops-once j k s s′ = first-stops-once (stop j First s) (stop k First s′)
 
   pub stops-bound : (k : Method) {n : ℕ} {T U : Marks} → Rounds B lines facts k n T U → n ≤ B .width + 2

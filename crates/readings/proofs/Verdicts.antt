@@ -5,12 +5,12 @@ use mathlib.Core.Logic.{_⊎_, inl, inr}
 use mathlib.Core.Path.{_≡_, refl, subst, sym, _∙_}
 use Prim.Native.Nat.{ℕ}
 use lib.Dec.{T}
-use Rattle.marks.specs.Sets.{Marks, _∈_, no-marks}
+use Rattle.marks.specs.Sets.{Marks, _∈_}
 use Rattle.readings.specs.Books.{Book, Clashes}
 use Rattle.readings.specs.Rules.{Rule, Fit}
-use Rattle.readings.specs.Yields.{Full, Guarded}
+use Rattle.readings.specs.Yields.{Guarded}
 use Rattle.readings.specs.Readings.{Least-reading}
-use Rattle.readings.specs.Says.{the-answer, the-verdict, Is-broken, Yields-agree, Yields-differ}
+use Rattle.readings.specs.Says.{the-answer, the-verdict, Yields-agree, Yields-differ}
 use Rattle.readings.specs.Computed.{among, agree, full-of, guarded-of, verdict-by, verdict-of}
 use Rattle.readings.specs.Theorems.{Exactly-one}
 use Rattle.readings.specs.declared.answer.Answer.{Answer}
@@ -70,7 +70,8 @@ module _ (B : Book) (lines : List Rule) (facts X U : Marks) where
   one-verdict Broken Broken p q = refl
 
 module _ {B : Book} {lines : List Rule} {facts : Marks} (fit : Fit B lines facts) where
-  pub verdict-right : {X U : Marks} → Least-reading B lines facts X U → the-verdict (verdict-of B lines facts X) .says B lines facts X U
+  pub verdict-right : {X U : Marks} → Least-reading B lines facts X U
+      → the-verdict (verdict-of B lines facts X) .says B lines facts X U
   verdict-right {X} {U} p = go (B .clash X) (agree (B .width) full guarded) (λ t. t) (λ t. t) (λ t. t) (λ t. t)
     where
       full : Marks
@@ -79,7 +80,8 @@ module _ {B : Book} {lines : List Rule} {facts : Marks} (fit : Fit B lines facts
       guarded : Marks
       guarded = among (guarded-of B lines facts X)
 
-      go : (b s : Bool) → (T b → Clashes B X) → (Clashes B X → T b) → (T s → T (agree (B .width) full guarded)) → (T (agree (B .width) full guarded) → T s)
+      go : (b s : Bool) → (T b → Clashes B X) → (Clashes B X → T b) → (T s → T (agree (B .width) full guarded))
+          → (T (agree (B .width) full guarded) → T s)
           → the-verdict (verdict-by b s) .says B lines facts X U
       go true s b _ i j = broken-is-clash fit p .1 (b tt)
       go false true _ c i j = (
@@ -101,6 +103,7 @@ module _ {B : Book} {lines : List Rule} {facts : Marks} (fit : Fit B lines facts
         },
       )
 
-  pub verdict-once : (X U : Marks) → Least-reading B lines facts X U → Exactly-one (λ (v : Verdict). the-verdict v .says B lines facts X U)
+  pub verdict-once : (X U : Marks) → Least-reading B lines facts X U
+      → Exactly-one (λ (v : Verdict). the-verdict v .says B lines facts X U)
   verdict-once X U p =
       record { it = verdict-of B lines facts X; holds = verdict-right p; only = λ v h. one-verdict B lines facts X U v (verdict-of B lines facts X) h (verdict-right p) }

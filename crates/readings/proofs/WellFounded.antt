@@ -1,10 +1,9 @@
 -- With the bare book the least reading is the well-founded model.
-use mathlib.Core.Bool.{Bool}
 use mathlib.Core.List.{List}
-use mathlib.Core.Logic.{_⊎_, inl, inr}
+use mathlib.Core.Logic.{inl, inr}
 use mathlib.Core.Path.{_≡_, refl}
 use Prim.Native.Nat.{ℕ}
-use Rattle.marks.specs.Sets.{Marks, _∈_, _⊆_, below, Of-width, _∪_, _∖_, outside}
+use Rattle.marks.specs.Sets.{Marks, _⊆_, below, _∖_, outside}
 use Rattle.readings.specs.Books.{Lawful}
 use Rattle.readings.specs.Rules.{Rule, Fit}
 use Rattle.readings.specs.Yields.{Full, Guarded}
@@ -30,7 +29,8 @@ bare-lawful w =
     }
 
 module _ {w : ℕ} {lines : List Rule} {facts : Marks} where
-  reading-pair : {T U : Marks} → Full (bare w) lines facts U T → Guarded (bare w) lines facts T U → Founded-pair w lines facts T (outside w U)
+  reading-pair : {T U : Marks} → Full (bare w) lines facts U T → Guarded (bare w) lines facts T U
+      → Founded-pair w lines facts T (outside w U)
   reading-pair {T} {U} p g =
       record {
         T-of-width = p .of-width;
@@ -54,14 +54,16 @@ module _ {w : ℕ} {lines : List Rule} {facts : Marks} where
             | inr s ↦ a .admitted .exceptions (s .0) (s .1) (s .2)
           ]))
 
-  model-unique : {T F T′ F′ : Marks} → Well-founded-model w lines facts T F → Well-founded-model w lines facts T′ F′ → (T ≡ T′) × (F ≡ F′)
+  model-unique : {T F T′ F′ : Marks} → Well-founded-model w lines facts T F → Well-founded-model w lines facts T′ F′
+      → (T ≡ T′) × (F ≡ F′)
   model-unique p q =
       let a = p .least _ _ (q .pair) in
       let b = q .least _ _ (p .pair) in
       (same (a .0) (b .0), same (a .1) (b .1))
 
 module _ {w : ℕ} {lines : List Rule} {facts : Marks} (fit : Fit (bare w) lines facts) where
-  run-within : {k : ℕ} {T U T′ F′ : Marks} → Run (first-method (bare w) lines facts) k T U → Founded-pair w lines facts T′ F′ → (T ⊆ T′) × (outside w U ⊆ F′)
+  run-within : {k : ℕ} {T U T′ F′ : Marks} → Run (first-method (bare w) lines facts) k T U → Founded-pair w lines facts T′ F′
+      → (T ⊆ T′) × (outside w U ⊆ F′)
   run-within start p = (none-within _, λ m t. absurd (less-out (below w) (below w) m t (less-left (below w) (below w) m t)))
   run-within {T = T} {U} {T′} {F′} (round {V = U₀} run q) p =
       let before = run-within run p in

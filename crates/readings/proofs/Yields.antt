@@ -1,14 +1,14 @@
 -- Yields are unique and fall as the set grows; the guarded lies within the full.
 use mathlib.Core.List.{List, List·Memᴰ·not-nil}
-use Prim.Native.Nat.{ℕ}
 use Rattle.marks.specs.Sets.{Marks, _∈_, _⊆_, below, Of-width, with-mark}
-use Rattle.readings.specs.Books.{Book, Lawful}
+use Rattle.readings.specs.Books.{Book}
 use Rattle.readings.specs.Rules.{Rule, Counts, line, stands, Rule-within, Fit}
 use Rattle.readings.specs.Yields.{Admitted, Allowed, Full, Guarded}
 use Rattle.readings.proofs.Sets.{with-within, with-grows}
 use Rattle.readings.proofs.Closing.{none-within, least-within}
 
-pub admitted-falls : {lines : List Rule} {facts : Marks} (S : Marks) {S′ : Marks} {r : Rule} → S ⊆ S′ → Admitted lines facts S′ r → Admitted lines facts S r
+pub admitted-falls : {lines : List Rule} {facts : Marks} (S : Marks) {S′ : Marks} {r : Rule} → S ⊆ S′ → Admitted lines facts S′ r
+    → Admitted lines facts S r
 admitted-falls S s a = record { counts = a .counts; exceptions = λ m i t. a .exceptions m i (s m t) }
 
 module _ {B : Book} {lines : List Rule} {facts : Marks} (fit : Fit B lines facts) where
@@ -20,10 +20,12 @@ module _ {B : Book} {lines : List Rule} {facts : Marks} (fit : Fit B lines facts
   head-within i = counts-within i .head
 
   -- a set of the width with the head of a rule is one of the width
-  pub with-head : (S : Marks) {r : Rule} → Counts lines facts r → Of-width (B .width) S → Of-width (B .width) (with-mark S (r .head))
+  pub with-head : (S : Marks) {r : Rule} → Counts lines facts r → Of-width (B .width) S
+      → Of-width (B .width) (with-mark S (r .head))
   with-head S {r} i s = with-within S (below (B .width)) (r .head) (head-within i) s
 
-  pub allowed-falls : (S S′ : Marks) {r : Rule} → Of-width (B .width) S′ → S ⊆ S′ → Allowed B lines facts S′ r → Allowed B lines facts S r
+  pub allowed-falls : (S S′ : Marks) {r : Rule} → Of-width (B .width) S′ → S ⊆ S′ → Allowed B lines facts S′ r
+      → Allowed B lines facts S r
   allowed-falls S S′ {r} w s a =
       let i = a .admitted .counts in
       record {
@@ -34,7 +36,8 @@ module _ {B : Book} {lines : List Rule} {facts : Marks} (fit : Fit B lines facts
   pub full-falls : (S S′ : Marks) {X X′ : Marks} → S ⊆ S′ → Full B lines facts S X → Full B lines facts S′ X′ → X′ ⊆ X
   full-falls S S′ {X} s p q = least-within (none-within X) (λ r. admitted-falls S s) q p
 
-  pub guarded-falls : (S S′ : Marks) {X X′ : Marks} → Of-width (B .width) S′ → S ⊆ S′ → Guarded B lines facts S X → Guarded B lines facts S′ X′ → X′ ⊆ X
+  pub guarded-falls : (S S′ : Marks) {X X′ : Marks} → Of-width (B .width) S′ → S ⊆ S′ → Guarded B lines facts S X
+      → Guarded B lines facts S′ X′ → X′ ⊆ X
   guarded-falls S S′ {X} w s p q = least-within (none-within X) (λ r. allowed-falls S S′ w s) q p
 
   pub guarded-within-full : {S X Y : Marks} → Guarded B lines facts S X → Full B lines facts S Y → X ⊆ Y

@@ -4,7 +4,7 @@ use mathlib.Core.Bool.{Bool, true, false, not, _&&_, _||_}
 use mathlib.Core.List.{List, [], _∷_, _++_, map}
 use Prim.Native.Nat.{ℕ, zero, suc}
 use lib.Dec.{eqb}
-use Rattle.marks.specs.Sets.{Marks, no-marks, below, with-mark, _∪_}
+use Rattle.marks.specs.Sets.{Marks, below, with-mark, _∪_}
 use Rattle.readings.specs.Books.{Book}
 use Rattle.readings.specs.Rules.{Rule, fact}
 use Rattle.readings.specs.declared.verdict.Verdict.{Verdict}

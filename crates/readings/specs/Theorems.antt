@@ -51,7 +51,8 @@ module _ (B : Book) (lines : List Rule) (facts : Marks) where
   -- In the first method T only grows and U only shrinks, and a round that changes neither is at the least reading.
   pub record First-method-finds-it : Type 0 where
     pub grows : (k : ℕ) (T U T′ U′ : Marks) → Run (first-method B lines facts) k T U → First-round B lines facts U T′ U′ → T ⊆ T′
-    pub shrinks : (k : ℕ) (T U T′ U′ : Marks) → Run (first-method B lines facts) k T U → First-round B lines facts U T′ U′ → U′ ⊆ U
+    pub shrinks : (k : ℕ) (T U T′ U′ : Marks) → Run (first-method B lines facts) k T U → First-round B lines facts U T′ U′
+        → U′ ⊆ U
     pub rests : (k : ℕ) (T U : Marks) → Run (first-method B lines facts) k T U → First-round B lines facts U T U
         → Least-reading B lines facts T U
 
@@ -95,7 +96,8 @@ module _ (B : Book) (lines : List Rule) (facts : Marks) where
   -- A pair of sets gives exactly one answer of each mark, and the least reading exactly one verdict.
   pub record Says-one-thing : Type 0 where
     pub answer : (T U : Marks) (m : ℕ) → Exactly-one (λ (a : Answer). the-answer a .says T U m)
-    pub verdict : (T U : Marks) → Least-reading B lines facts T U → Exactly-one (λ (v : Verdict). the-verdict v .says B lines facts T U)
+    pub verdict : (T U : Marks) → Least-reading B lines facts T U
+        → Exactly-one (λ (v : Verdict). the-verdict v .says B lines facts T U)
 
   -- So each relation that a promise cites has exactly one solution: to meet it is to be equal to that.
   pub record Relations-decide : Type 0 where
@@ -109,7 +111,8 @@ module _ (B : Book) (lines : List Rule) (facts : Marks) where
     pub full : (S : Marks) → Full B lines facts S (among (full-of B lines facts S))
     pub guarded : (S : Marks) → Guarded B lines facts S (among (guarded-of B lines facts S))
     pub settled : let e = settled-of B lines facts in Rounds B lines facts First (e .0) (among (e .1)) (among (e .2))
-    pub verdict : (T U : Marks) → Least-reading B lines facts T U → the-verdict (verdict-of B lines facts T) .says B lines facts T U
+    pub verdict : (T U : Marks) → Least-reading B lines facts T U
+        → the-verdict (verdict-of B lines facts T) .says B lines facts T U
 
 -- The bare book keeps the laws. With it the T of the least reading is the T of the well-founded model, and the marks outside its
 -- U are the F; there is exactly one such model.
