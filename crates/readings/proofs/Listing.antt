@@ -1,16 +1,15 @@
--- Sets written down as lists, and tests on them.
+-- Sets written down as lists, and tests on the marks of a list.
 use mathlib.Core.Bool.{Bool, true, false, not}
 use mathlib.Core.List.{List, [], _∷_, List·Memᴰ, List·Memᴰ·head, List·Memᴰ·tail, List·Memᴰ·not-nil, List·Memᴰ·cases-cons}
 use mathlib.Core.Logic.{_⊎_, inl, inr}
 use mathlib.Core.Path.{_≡_, refl, subst, sym}
 use Prim.Native.Nat.{ℕ, zero, suc, _<_}
 use native.Mathlib.Nat.{not-suc-le-zero, eq-or-lt-of-le, le-of-suc-le-suc}
-use native.Mathlib.Omega.{arith}
-use lib.Dec.{T, eqb, eqb→eq, eqb-refl, ltb→lt, lt→ltb, T-not, not-T}
+use lib.Dec.{T, eqb, eqb→eq, eqb-refl, ltb→lt, T-not, not-T}
 use Rattle.marks.specs.Sets.{Marks, _∈_, _⊆_, Of-width}
-use Rattle.readings.specs.Rules.{All-in, None-in}
+use Rattle.readings.specs.Rules.{All-in, None-in, Some-in}
 use Rattle.readings.specs.Computed.{keep, listed, among, same-bit, agree, has-all, has-none}
-use Rattle.readings.proofs.Sets.{both, left, right, or-left, or-right, or-cases, same}
+use Rattle.readings.proofs.Sets.{both, left, right, or-left, or-right, or-cases, decide, same}
 
 -- the set of a list has exactly its marks
 
@@ -40,14 +39,6 @@ keep-new : (b : Bool) (k : ℕ) (ks : List ℕ) → T b → k ∈ among (keep b 
 keep-new true k ks t = or-left (eqb k k) (among ks k) (eqb-refl k)
 keep-new false k ks t = absurd t
 
-listed-below : (w : ℕ) (S : Marks) (m : ℕ) → m ∈ among (listed w S) → m < w
-listed-below zero S m t = absurd t
-listed-below (suc w) S m t =
-    elim (keep-cases (S w) w (listed w S) m t) [
-      | inl p ↦ let e = p .0 in omega arith
-      | inr h ↦ let l = listed-below w S m h in omega arith
-    ]
-
 listed-in : (w : ℕ) (S : Marks) → among (listed w S) ⊆ S
 listed-in zero S m t = absurd t
 listed-in (suc w) S m t =
@@ -63,9 +54,6 @@ in-listed (suc w) S m h t =
       | inl e ↦ subst (λ (j : ℕ). j ∈ among (listed (suc w) S)) (sym e) (keep-new (S w) w (listed w S) (subst (λ (j : ℕ). j ∈ S) e t))
       | inr l ↦ keep-old (S w) w (listed w S) m (in-listed w S m l t)
     ]
-
-pub listed-width : (w : ℕ) (S : Marks) → Of-width w (among (listed w S))
-listed-width w S m t = lt→ltb m w (listed-below w S m t)
 
 pub among-listed : (w : ℕ) (S : Marks) → Of-width w S → among (listed w S) ≡ S
 among-listed w S s = same (listed-in w S) (λ m t. in-listed w S m (ltb→lt m w (s m t)) t)
@@ -128,3 +116,22 @@ pub in-has-none : (ms : List ℕ) (S : Marks) → None-in ms S → T (has-none m
 in-has-none [] S a = tt
 in-has-none (x ∷ xs) S a =
     both (not (S x)) (has-none xs S) (not-T (S x) (a x (List·Memᴰ·head refl))) (in-has-none xs S (λ m i. a m (List·Memᴰ·tail i)))
+
+-- the marks of a list lie in a set, or one of them does not
+
+pub all-or-lacks : (ms : List ℕ) (S : Marks) → All-in ms S ⊎ ((m : ℕ) × List·Memᴰ m ms × (m ∈ S → ⊥))
+all-or-lacks [] S = inl (λ m i. absurd (List·Memᴰ·not-nil i))
+all-or-lacks (x ∷ xs) S = go (decide (S x)) (all-or-lacks xs S)
+  where
+    go : (x ∈ S) ⊎ (x ∈ S → ⊥) → All-in xs S ⊎ ((m : ℕ) × List·Memᴰ m xs × (m ∈ S → ⊥))
+        → All-in (x ∷ xs) S ⊎ ((m : ℕ) × List·Memᴰ m (x ∷ xs) × (m ∈ S → ⊥))
+    go (inr n) q = inr (x, List·Memᴰ·head refl, n)
+    go (inl h) (inr q) = inr (q .0, List·Memᴰ·tail (q .1), q .2)
+    go (inl h) (inl q) = inl (λ m i. elim (List·Memᴰ·cases-cons i) [ inl e ↦ subst (λ (j : ℕ). j ∈ S) (sym e) h | inr j ↦ q m j ])
+
+pub none-or-some : (ms : List ℕ) (S : Marks) → None-in ms S ⊎ Some-in ms S
+none-or-some ms S =
+    elim (all-or-lacks ms (λ m. not (S m))) [
+      | inl a ↦ inl (λ m i. T-not (S m) (a m i))
+      | inr s ↦ inr (s .0, s .1, elim (decide (S (s .0))) [ inl t ↦ t | inr f ↦ absurd (s .2 (not-T (S (s .0)) f)) ])
+    ]

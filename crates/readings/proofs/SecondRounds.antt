@@ -9,7 +9,7 @@ use Rattle.readings.specs.Books.{Book, Closed}
 use Rattle.readings.specs.Rules.{Rule, Counts, Fit, All-in, None-in}
 use Rattle.readings.specs.Yields.{Has-heads, Least-closed, Admitted, Allowed, Full, Guarded}
 use Rattle.readings.specs.Methods.{Run, start, round, First-round, first-method, Past-exceptions, Not-refuted, Second-round, second-method}
-use Rattle.readings.proofs.Sets.{same, both, or-left, join-within, meet-left, meet-right, less-left, less-out, not-outside}
+use Rattle.readings.proofs.Sets.{same, both, or-left, join-within, meet-left, meet-right, less-out, not-outside, outside-twice}
 use Rattle.readings.proofs.Closing.{none-within, all-closed, meet-closed}
 use Rattle.readings.proofs.Yields.{counts-within, head-within, admitted-falls, allowed-falls}
 use Rattle.readings.proofs.FirstRounds.{U-width, moves}
@@ -130,10 +130,10 @@ module _ {B : Book} {lines : List Rule} {facts : Marks} (fit : Fit B lines facts
   second-first start = subst (Run (first-method B lines facts) 0 no-marks) (fun-ext (λ m. sym (and-true (below (B .width) m)))) start
   second-first (round {V = F} {T′ = T′} {V′ = F′} run s) =
       let before = second-first run in
-      let o = kept-outside F before (s .grown .of-width) (s .grown .around) (s .keeps) in
-      let e : s .kept ≡ outside (B .width) F′ = sym (upper-joined (B .width) F (s .kept) o) ∙ sym (ap (outside (B .width)) (s .joined)) in
+      let o = kept-outside F before (s .grown .of-width) (s .grown .around) (s .kept) in
+      let e : s .Y ≡ outside (B .width) F′ = sym (upper-joined (B .width) F (s .Y) o) ∙ sym (ap (outside (B .width)) (s .joined)) in
       subst (Run (first-method B lines facts) _ T′) e
-      (round before (record { full = grown-full F before (s .grown); guarded = kept-guarded F before o (s .keeps) }))
+      (round before (record { full = grown-full F before (s .grown); guarded = kept-guarded F before o (s .kept) }))
 
   pub first-second : {k : ℕ} {T U : Marks} → Run (first-method B lines facts) k T U
       → (F : Marks) × Run (second-method B lines facts) k T F × (U ≡ outside (B .width) F)
@@ -145,7 +145,7 @@ module _ {B : Book} {lines : List Rule} {facts : Marks} (fit : Fit B lines facts
       let r′ : First-round B lines facts (outside (B .width) F) T′ U′ = subst (λ (V : Marks). First-round B lines facts V T′ U′) (p .2) r in
       let o : U′ ⊆ outside (B .width) F = moves fit before r′ .1 in (
         F ∪ outside (B .width) U′,
-        round (p .1) (record { grown = full-grown F before (r′ .full); kept = U′; keeps = guarded-kept F before o (r′ .guarded); joined = refl }),
+        round (p .1) (record { grown = full-grown F before (r′ .full); Y = U′; kept = guarded-kept F before o (r′ .guarded); joined = refl }),
         sym (upper-joined (B .width) F U′ o),
       )
 
@@ -162,10 +162,10 @@ module _ {B : Book} {lines : List Rule} {facts : Marks} (fit : Fit B lines facts
         p .2,
         record {
           grown = full-grown F before (r′ .full);
-          kept = outside (B .width) F;
-          keeps = guarded-kept F before (λ m t. t) (r′ .guarded);
+          Y = outside (B .width) F;
+          kept = guarded-kept F before (λ m t. t) (r′ .guarded);
           joined = same (λ m t. or-left (F m) (outside (B .width) (outside (B .width) F) m) t)
-              (join-within F (outside (B .width) (outside (B .width) F)) F (λ m t. t) (λ m t. not-outside (B .width) F m (less-left (below (B .width)) (outside (B .width) F) m t) (less-out (below (B .width)) (outside (B .width) F) m t)));
+              (join-within F (outside (B .width) (outside (B .width) F)) F (λ m t. t) (outside-twice (B .width) F));
         },
       )
 
@@ -173,6 +173,6 @@ module _ {B : Book} {lines : List Rule} {facts : Marks} (fit : Fit B lines facts
       → First-round B lines facts (outside (B .width) F) T (outside (B .width) F)
   first-rests {T = T} {F} run s =
       let before = second-first run in
-      let o = kept-outside F before (s .grown .of-width) (s .grown .around) (s .keeps) in
-      let e : s .kept ≡ outside (B .width) F = sym (upper-joined (B .width) F (s .kept) o) ∙ sym (ap (outside (B .width)) (s .joined)) in
-      record { full = grown-full F before (s .grown); guarded = subst (Guarded B lines facts T) e (kept-guarded F before o (s .keeps)) }
+      let o = kept-outside F before (s .grown .of-width) (s .grown .around) (s .kept) in
+      let e : s .Y ≡ outside (B .width) F = sym (upper-joined (B .width) F (s .Y) o) ∙ sym (ap (outside (B .width)) (s .joined)) in
+      record { full = grown-full F before (s .grown); guarded = subst (Guarded B lines facts T) e (kept-guarded F before o (s .kept)) }

@@ -1,13 +1,11 @@
 -- Sets of marks: their operations mark by mark, equality by inclusion both ways, and what can be decided of them.
 use mathlib.Core.Bool.{Bool, true, false, _||_, _&&_, not}
-use mathlib.Core.List.{List, [], _∷_, List·Memᴰ·head, List·Memᴰ·tail, List·Memᴰ, List·Memᴰ·not-nil, List·Memᴰ·cases-cons}
 use mathlib.Core.Logic.{_⊎_, inl, inr}
 use mathlib.Core.Path.{_≡_, refl, fun-ext, subst, sym}
 use Prim.Native.Nat.{ℕ, zero, suc, _<_}
 use native.Mathlib.Nat.{not-suc-le-zero, eq-or-lt-of-le, le-of-suc-le-suc}
 use lib.Dec.{T, eqb, eqb→eq, eqb-refl, ltb→lt, T-not, not-T}
 use Rattle.marks.specs.Sets.{Marks, _∈_, _⊆_, below, Of-width, with-mark, _∪_, _∩_, _∖_, outside}
-use Rattle.readings.specs.Rules.{All-in, None-in, Some-in}
 
 -- two tests
 
@@ -75,10 +73,8 @@ less-out X Y m t = T-not (Y m) (right (X m) (not (Y m)) t)
 pub not-outside : (w : ℕ) (S : Marks) (m : ℕ) → m ∈ below w → (m ∈ outside w S → ⊥) → m ∈ S
 not-outside w S m b n = elim (decide (S m)) [ inl t ↦ t | inr f ↦ absurd (n (less-in (below w) S m b f)) ]
 
-pub outside-twice : (w : ℕ) (S : Marks) → Of-width w S → outside w (outside w S) ≡ S
-outside-twice w S s =
-    same (λ m t. not-outside w S m (less-left (below w) (outside w S) m t) (less-out (below w) (outside w S) m t))
-    (λ m t. less-in (below w) (outside w S) m (s m t) (λ o. less-out (below w) S m o t))
+pub outside-twice : (w : ℕ) (S : Marks) → outside w (outside w S) ⊆ S
+outside-twice w S m t = not-outside w S m (less-left (below w) (outside w S) m t) (less-out (below w) (outside w S) m t)
 
 -- a set with one mark more
 
@@ -119,22 +115,3 @@ within-or-lacks-below (suc w) X Y = go (within-or-lacks-below w X Y) (decide (X 
 
 pub within-or-lacks : (w : ℕ) (X Y : Marks) → Of-width w X → (X ⊆ Y) ⊎ ((m : ℕ) × (m ∈ X) × (m ∈ Y → ⊥))
 within-or-lacks w X Y x = elim (within-or-lacks-below w X Y) [ inl f ↦ inl (λ m t. f m (ltb→lt m w (x m t)) t) | inr l ↦ inr l ]
-
--- the marks of a list lie in a set, or one of them does not
-
-pub all-or-lacks : (ms : List ℕ) (S : Marks) → All-in ms S ⊎ ((m : ℕ) × List·Memᴰ m ms × (m ∈ S → ⊥))
-all-or-lacks [] S = inl (λ m i. absurd (List·Memᴰ·not-nil i))
-all-or-lacks (x ∷ xs) S = go (decide (S x)) (all-or-lacks xs S)
-  where
-    go : (x ∈ S) ⊎ (x ∈ S → ⊥) → All-in xs S ⊎ ((m : ℕ) × List·Memᴰ m xs × (m ∈ S → ⊥))
-        → All-in (x ∷ xs) S ⊎ ((m : ℕ) × List·Memᴰ m (x ∷ xs) × (m ∈ S → ⊥))
-    go (inr n) q = inr (x, List·Memᴰ·head refl, n)
-    go (inl h) (inr q) = inr (q .0, List·Memᴰ·tail (q .1), q .2)
-    go (inl h) (inl q) = inl (λ m i. elim (List·Memᴰ·cases-cons i) [ inl e ↦ subst (λ (j : ℕ). j ∈ S) (sym e) h | inr j ↦ q m j ])
-
-pub none-or-some : (ms : List ℕ) (S : Marks) → None-in ms S ⊎ Some-in ms S
-none-or-some ms S =
-    elim (all-or-lacks ms (λ m. not (S m))) [
-      | inl a ↦ inl (λ m i. T-not (S m) (a m i))
-      | inr s ↦ inr (s .0, s .1, elim (decide (S (s .0))) [ inl t ↦ t | inr f ↦ absurd (s .2 (not-T (S (s .0)) f)) ])
-    ]

@@ -52,7 +52,7 @@ module _ {B : Book} {lines : List Rule} {facts : Marks} (fit : Fit B lines facts
   pub methods-agree : Methods-agree B lines facts
   methods-agree =
       record {
-        grows = λ T F T′ F′ s. (s .grown .around, λ m t. within-same (sym (s .joined)) m (or-left (F m) (outside (B .width) (s .kept) m) t));
+        grows = λ T F T′ F′ s. (s .grown .around, λ m t. within-same (sym (s .joined)) m (or-left (F m) (outside (B .width) (s .Y) m) t));
         second-as-first = λ k T F. two.second-first fit;
         first-as-second = λ k T U. two.first-second fit;
         stop = λ j k n T U. ends.stop fit j k;

@@ -10,7 +10,7 @@ use Rattle.readings.specs.Readings.{Least-reading}
 use Rattle.readings.specs.Methods.{Run, First-round, first-method, second-method, Stops}
 use Rattle.readings.specs.Says.{Rounds}
 use Rattle.readings.specs.Computed.{among, settled-of}
-use Rattle.readings.specs.Theorems.{Exactly-one}
+use Rattle.readings.specs.ExactlyOne.{Exactly-one}
 use Rattle.readings.specs.declared.method.Method.{Method}
 use Rattle.readings.specs.declared.method.Method.the-variants.{First, Second}
 use Rattle.readings.proofs.FirstRounds.{run-unique, rests-at-least, least-reading-unique}

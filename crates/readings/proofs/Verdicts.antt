@@ -12,7 +12,7 @@ use Rattle.readings.specs.Yields.{Guarded}
 use Rattle.readings.specs.Readings.{Least-reading}
 use Rattle.readings.specs.Says.{the-answer, the-verdict, Yields-agree, Yields-differ}
 use Rattle.readings.specs.Computed.{among, agree, full-of, guarded-of, verdict-by, verdict-of}
-use Rattle.readings.specs.Theorems.{Exactly-one}
+use Rattle.readings.specs.ExactlyOne.{Exactly-one}
 use Rattle.readings.specs.declared.answer.Answer.{Answer}
 use Rattle.readings.specs.declared.answer.Answer.the-variants.{Not, Holds, Open, Both}
 use Rattle.readings.specs.declared.verdict.Verdict.{Verdict}

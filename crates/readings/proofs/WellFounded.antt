@@ -10,8 +10,9 @@ use Rattle.readings.specs.Yields.{Full, Guarded}
 use Rattle.readings.specs.Readings.{Least-reading}
 use Rattle.readings.specs.Methods.{Run, start, round, first-method}
 use Rattle.readings.specs.WellFounded.{bare, Unfounded, Founded-pair, Well-founded-model}
-use Rattle.readings.specs.Theorems.{Exactly-one}
-use Rattle.readings.proofs.Sets.{same, or-right, or-cases, less-in, less-left, less-out, all-or-lacks, none-or-some}
+use Rattle.readings.specs.ExactlyOne.{Exactly-one}
+use Rattle.readings.proofs.Sets.{same, or-right, or-cases, less-in, less-left, less-out}
+use Rattle.readings.proofs.Listing.{all-or-lacks, none-or-some}
 use Rattle.readings.proofs.Closing.{none-within}
 use Rattle.readings.proofs.Yields.{counts-within}
 use Rattle.readings.proofs.Stopping.{one-least-reading, least-run}

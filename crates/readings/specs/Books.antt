@@ -9,7 +9,7 @@ use Rattle.marks.specs.Sets.{Marks, _⊆_, below, Of-width, with-mark}
 pub record Book : Type 0 where
   -- how many marks are in use
   pub width : ℕ
-  -- all that is so where the set is
+  -- all that is so where the marks of the set are
   pub closure : Marks → Marks
   -- whether the set contradicts the book
   pub clash : Marks → Bool
@@ -25,7 +25,7 @@ Denied B S m = Clashes B (with-mark S m)
 abbrev pub Closed : Book → Marks → Type 0
 Closed B S = B .closure S ≡ S
 
--- The laws of every book. They speak of sets of its width alone; of other sets nothing is asked.
+-- The laws that every book keeps. They speak of the sets of its width alone: what a book says of other sets counts nowhere.
 pub record Lawful (B : Book) : Type 0 where
   -- the closure of a set of the width is a set of the width
   pub of-width : (S : Marks) → Of-width (B .width) S → Of-width (B .width) (B .closure S)
@@ -33,11 +33,11 @@ pub record Lawful (B : Book) : Type 0 where
   pub extensive : (S : Marks) → Of-width (B .width) S → S ⊆ B .closure S
   -- a greater set has a greater closure
   pub monotone : (S S′ : Marks) → Of-width (B .width) S → Of-width (B .width) S′ → S ⊆ S′ → B .closure S ⊆ B .closure S′
-  -- closing twice gives no more than closing once
+  -- the closure is its own closure
   pub idempotent : (S : Marks) → Of-width (B .width) S → Closed B (B .closure S)
-  -- a clash stays when the set grows
+  -- a set around one at which the book clashes is another
   pub clash-grows : (S S′ : Marks) → Of-width (B .width) S → Of-width (B .width) S′ → S ⊆ S′ → Clashes B S → Clashes B S′
-  -- a clash of the closure is a clash of the set
+  -- a book that clashes at the closure of a set clashes at the set
   pub clash-comes-back : (S : Marks) → Of-width (B .width) S → Clashes B (B .closure S) → Clashes B S
-  -- from a clash everything follows
+  -- from a clash everything follows: the closure is all marks
   pub clash-gives-all : (S : Marks) → Of-width (B .width) S → Clashes B S → B .closure S ≡ below (B .width)

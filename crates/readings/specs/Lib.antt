@@ -6,4 +6,5 @@ pub mod Methods
 pub mod Says
 pub mod WellFounded
 pub mod Computed
+pub mod ExactlyOne
 pub mod Theorems

@@ -1,4 +1,4 @@
--- The two methods of settling, each by where it starts, what one round does and when it stops.
+-- The two methods of settling: where each starts, what one round does, and when it stops.
 use mathlib.Core.List.{List}
 use mathlib.Core.Path.{_≡_}
 use Prim.Native.Nat.{ℕ, suc, _<_}
@@ -7,7 +7,7 @@ use Rattle.readings.specs.Books.{Book, Denied}
 use Rattle.readings.specs.Rules.{Rule, Counts, All-in, None-in}
 use Rattle.readings.specs.Yields.{Least-closed, Full, Guarded}
 
--- A method goes from pair to pair of sets. The one is T, which is empty at the start; the other, V, tells what U is.
+-- A method goes from pair to pair of sets. One of them is T, which is empty at the start; the other, here V, tells what U is.
 pub record Way : Type 1 where
   -- V at the start
   pub start : Marks
@@ -16,25 +16,28 @@ pub record Way : Type 1 where
   -- what U is
   pub upper : (V : Marks) → Marks
 
--- after k rounds the sets are T and V
+-- k rounds from the start lead to T and V
 pub data Run (W : Way) : ℕ → Marks → Marks → Type 0 where
   start : Run W 0 no-marks (W .start)
   round : {k : ℕ} {T V T′ V′ : Marks} → Run W k T V → W .round T V T′ V′ → Run W (suc k) T′ V′
 
--- A method stops after the first round that changes neither set. Its rounds are all that it makes, this last one counted: here
--- n, and it ends with T and U.
+-- A method stops after the first round that changes neither set. Its rounds are all that it makes from the start, this last one
+-- counted: here n, with T and U at the end.
 pub record Stops (W : Way) (n : ℕ) (T U : Marks) : Type 0 where
+  -- the last round is one more than those before it
   pub before : ℕ
   pub count : n ≡ suc before
   pub other : Marks
-  pub upper : U ≡ W .upper other
   pub run : Run W before T other
+  -- it changes neither set
   pub last : W .round T other T other
+  -- no earlier one does so
   pub first : (j : ℕ) (T′ V′ : Marks) → j < before → Run W j T′ V′ → W .round T′ V′ T′ V′ → ⊥
+  pub upper : U ≡ W .upper other
 
 module _ (B : Book) (lines : List Rule) (facts : Marks) where
   -- The first method starts with T empty and U all marks. A round makes T the full yield of U, and then U the guarded yield of
-  -- that T (the alternating fixpoint).
+  -- that T. (This is the alternating fixpoint.)
   pub record First-round (U T′ U′ : Marks) : Type 0 where
     pub full : Full B lines facts U T′
     pub guarded : Guarded B lines facts T′ U′
@@ -42,14 +45,14 @@ module _ (B : Book) (lines : List Rule) (facts : Marks) where
   abbrev pub first-method : Way
   first-method = record { start = below (B .width); round = λ T U T′ U′. First-round U T′ U′; upper = λ U. U }
 
-  -- The second method starts with T and F empty and never takes a mark out (the iterated fixpoint). A round first grows T to the
-  -- least closed set around it with the heads of the rules whose exceptions are all in F.
+  -- The second method starts with T and F empty and never takes a mark out. (This is the iterated fixpoint.) A round first grows
+  -- T to the least closed set around it with the heads of the rules whose exceptions are all in F.
   pub record Past-exceptions (F : Marks) (r : Rule) : Type 0 where
     pub counts : Counts lines facts r
     pub exceptions : All-in (r .exceptions) F
 
   -- Then Y is the least closed set with the heads of the rules that have no condition in F and no exception in T, and whose head
-  -- the book does not deny at T, the grown one.
+  -- is not denied at T; this T is the grown one.
   pub record Not-refuted (F T : Marks) (r : Rule) : Type 0 where
     pub counts : Counts lines facts r
     pub conditions : None-in (r .conditions) F
@@ -59,9 +62,9 @@ module _ (B : Book) (lines : List Rule) (facts : Marks) where
   -- All marks outside Y join F.
   pub record Second-round (T F T′ F′ : Marks) : Type 0 where
     pub grown : Least-closed B T (Past-exceptions F) T′
-    pub kept : Marks
-    pub keeps : Least-closed B no-marks (Not-refuted F T′) kept
-    pub joined : F′ ≡ F ∪ outside (B .width) kept
+    pub Y : Marks
+    pub kept : Least-closed B no-marks (Not-refuted F T′) Y
+    pub joined : F′ ≡ F ∪ outside (B .width) Y
 
   -- U is the marks outside F.
   abbrev pub second-method : Way

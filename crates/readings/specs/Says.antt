@@ -1,4 +1,4 @@
--- What each answer, verdict and method is: its number, and what it says. Every promise uses these definitions.
+-- What each answer, verdict and method is: its number, and what it says. Every promise that names one uses these definitions.
 use mathlib.Core.List.{List}
 use mathlib.Core.Logic.{_⊎_}
 use mathlib.Core.Path.{_≡_}
@@ -15,7 +15,7 @@ use Rattle.readings.specs.declared.verdict.Verdict.the-variants.{Clear, Suspec
 use Rattle.readings.specs.declared.method.Method.{Method}
 use Rattle.readings.specs.declared.method.Method.the-variants.{First, Second}
 
--- An answer speaks of a mark m by a reading T, U.
+-- An answer says where a mark m lies in the least reading T, U.
 pub record Answer-case : Type 1 where
   pub number : ℕ
   pub says : (T U : Marks) (m : ℕ) → Type 0
@@ -30,6 +30,7 @@ the-answer Both = record { number = 3; says = λ T U m. (m ∈ T) × (m ∈ U �
 abbrev pub Is-broken : Book → (T U : Marks) → Type 0
 Is-broken B T U = Clashes B no-marks ⊎ ((m : ℕ) × the-answer Both .says T U m)
 
+-- The yields are part of both statements, so that neither can be had for want of a yield.
 module _ (B : Book) (lines : List Rule) (facts : Marks) where
   -- the full and the guarded yield of S differ
   pub record Yields-differ (S : Marks) : Type 0 where
@@ -45,7 +46,7 @@ module _ (B : Book) (lines : List Rule) (facts : Marks) where
     pub full : Full B lines facts S yield
     pub guarded : Guarded B lines facts S yield
 
--- A verdict speaks of facts, with fare lines and a book, by their least reading T, U.
+-- A verdict is about facts, with fare lines and a book, and goes by their least reading T, U.
 pub record Verdict-case : Type 1 where
   pub number : ℕ
   pub says : (B : Book) (lines : List Rule) (facts T U : Marks) → Type 0
@@ -55,7 +56,7 @@ the-verdict Clear = record { number = 0; says = λ B lines facts T U. (Is-broken
 the-verdict Suspect = record { number = 1; says = λ B lines facts T U. (Is-broken B T U → ⊥) × Yields-differ B lines facts T }
 the-verdict Broken = record { number = 2; says = λ B lines facts T U. Is-broken B T U }
 
--- A method is a way from pair to pair.
+-- A method is a way of settling facts, with fare lines and a book.
 pub record Method-case : Type 1 where
   pub number : ℕ
   pub way : (B : Book) (lines : List Rule) (facts : Marks) → Way
@@ -64,6 +65,6 @@ abbrev pub the-method : Method → Method-case
 the-method First = record { number = 1; way = first-method }
 the-method Second = record { number = 2; way = second-method }
 
--- by this method the facts settle in n rounds, with T and U
+-- the rounds of this method are n, and it ends with T and U
 abbrev pub Rounds : (B : Book) (lines : List Rule) (facts : Marks) → Method → ℕ → (T U : Marks) → Type 0
 Rounds B lines facts k n T U = Stops (the-method k .way B lines facts) n T U

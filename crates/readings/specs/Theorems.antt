@@ -5,6 +5,7 @@ use mathlib.Core.Logic.{_↔_}
 use mathlib.Core.Path.{_≡_}
 use Prim.Native.Nat.{ℕ, _+_, _≤_}
 use Rattle.marks.specs.Sets.{Marks, _∈_, _⊆_, Of-width, outside}
+use Rattle.readings.specs.ExactlyOne.{Exactly-one}
 use Rattle.readings.specs.Books.{Book, Lawful, Clashes}
 use Rattle.readings.specs.Rules.{Rule, Fit}
 use Rattle.readings.specs.Yields.{Full, Guarded}
@@ -23,12 +24,6 @@ use Rattle.readings.specs.declared.method.Method.the-variants.{First}
 -- for every book that keeps the laws, any fare lines within its width and any facts of its width
 abbrev pub Always : (Book → List Rule → Marks → Type 0) → Type 0
 Always P = (B : Book) (lines : List Rule) (facts : Marks) → Fit B lines facts → P B lines facts
-
--- there is exactly one thing of which P holds
-pub record Exactly-one {A : Type 0} (P : A → Type 0) : Type 0 where
-  pub it : A
-  pub holds : P it
-  pub only : (a : A) → P a → a ≡ it
 
 module _ (B : Book) (lines : List Rule) (facts : Marks) where
   -- Every set has exactly one full yield and exactly one guarded yield.

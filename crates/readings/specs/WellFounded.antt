@@ -23,7 +23,7 @@ module _ (w : ℕ) (lines : List Rule) (facts : Marks) where
     pub heads : (r : Rule) → Counts lines facts r → All-in (r .conditions) T → All-in (r .exceptions) F → r .head ∈ T
     pub unfounded : (X : Marks) → Of-width w X → Unfounded T F X → X ⊆ F
 
-  -- The well-founded model is the least such pair.
+  -- The well-founded model is the least such pair: T is what is true by it, and F what is false.
   pub record Well-founded-model (T F : Marks) : Type 0 where
     pub pair : Founded-pair T F
     pub least : (T′ F′ : Marks) → Founded-pair T′ F′ → (T ⊆ T′) × (F ⊆ F′)

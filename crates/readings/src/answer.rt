@@ -1,4 +1,4 @@
-// What a settled sheet says of one mark.
+// What the least reading says of one mark.
 ghost use mathlib.Core.Path.{_≡_};
 ghost use Rattle.readings.specs.Says.{the-answer};
 
@@ -10,7 +10,7 @@ pub enum Answer {
     Holds,
     // neither is certain
     Open,
-    // the sheet contradicts itself at this mark
+    // certainly so and certainly not so: facts, lines and book contradict each other here
     Both,
 }
 

@@ -1,5 +1,5 @@
-// Readings of a sheet: what they are, how two methods find the least one, and what each is proved to promise.
-// The definitions stand in specs/; nothing here depends on how a reading is computed.
+// Readings: what they are, how two methods find the least one, and what is proved of them for every term book.
+// The definitions stand in specs/. Nothing in this crate depends on how a reading is computed.
 pub mod answer;
 pub mod method;
 pub mod theorems;

@@ -1,14 +1,14 @@
-// What a settled sheet says of itself.
+// What the least reading says of the facts as a whole.
 ghost use mathlib.Core.Path.{_≡_};
 ghost use Rattle.readings.specs.Says.{the-verdict};
 
 #[derive(Clone, Copy, Debug, PartialEq)]
 pub enum Verdict {
-    // nothing speaks against the sheet
+    // neither of the others; whether a sound reading exists is another question
     Clear,
-    // the book denies something that the fare lines yield
+    // the book denies at T the head of a line, and this tells in the yield of T
     Suspect,
-    // the sheet contradicts itself
+    // facts, lines and book contradict each other
     Broken,
 }
 
