@@ -3,49 +3,30 @@ use mathlib.Core.List.{List}
 use mathlib.Core.Logic.{_↔_, inl, inr}
 use mathlib.Core.Path.{sym, _∙_}
 use Prim.Native.Nat.{ℕ}
-use Rattle.marks.specs.Sets.{Marks, _∈_, _⊆_, below, no-marks, Of-width, _∩_}
-use Rattle.readings.specs.Books.{Book, Clashes, Closed}
-use Rattle.readings.specs.Rules.{Rule, Fit, All-in}
-use Rattle.readings.specs.Yields.{Admitted, Allowed, Full}
+use Rattle.marks.specs.Sets.{Marks, _⊆_, below, no-marks, Of-width}
+use Rattle.readings.specs.Books.{Book, Clashes}
+use Rattle.readings.specs.Rules.{Rule, Fit}
 use Rattle.readings.specs.Readings.{Least-reading}
 use Rattle.readings.specs.Methods.{Run, start, round, first-method}
 use Rattle.readings.specs.Says.{Is-broken}
-use Rattle.readings.proofs.Sets.{both, meet-left, meet-right, within-same, with-old, with-within, within-or-lacks, decide}
-use Rattle.readings.proofs.Closing.{none-within, meet-closed}
-use Rattle.readings.proofs.Yields.{with-head}
+use Rattle.readings.proofs.Sets.{within-same, with-old, within-or-lacks, decide}
+use Rattle.readings.proofs.Closing.{none-within, least-in}
+use Rattle.readings.proofs.Yields.{with-head, allowed-at}
 use Rattle.readings.proofs.FirstRounds.{T-width, U-width, moves}
 use Rattle.readings.proofs.SecondRounds.{U-closed, U-heads}
 use Rattle.readings.proofs.Stopping.{least-run}
 
 module _ {B : Book} {lines : List Rule} {facts : Marks} (fit : Fit B lines facts) where
-  -- a full yield lies within a closed set that has each head which the yield has by a rule, where its conditions are
-  full-within : {S X : Marks} (Z : Marks) → Full B lines facts S X → Of-width (B .width) Z → Closed B Z
-      → ((r : Rule) → Admitted lines facts S r → All-in (r .conditions) Z → r .head ∈ X → r .head ∈ Z) → X ⊆ Z
-  full-within {X = X} Z f zw zc zh m t =
-      meet-right X Z m
-      (f .least (X ∩ Z) (λ n u. zw n (meet-right X Z n u)) (none-within (X ∩ Z)) (meet-closed B (fit .lawful) X Z (f .of-width) zw (f .closed) zc)
-      (λ r a c.
-      let h : r .head ∈ X = f .heads r a (λ k j. meet-left X Z k (c k j)) in
-      both (X (r .head)) (Z (r .head)) h (zh r a (λ k j. meet-right X Z k (c k j)) h))
-      m t)
-
-  -- a rule with its head in T′ is allowed at T within T′, where the book does not clash at T′
-  allowed-at : (T T′ S : Marks) {r : Rule} → Of-width (B .width) T′ → T ⊆ T′ → T ⊆ S → (Clashes B T′ → ⊥)
-      → Admitted lines facts S r → r .head ∈ T′ → Allowed B lines facts T r
-  allowed-at T T′ S {r} w t s n a h =
-      record {
-        admitted = record { counts = a .counts; exceptions = λ m j u. a .exceptions m j (s m u) };
-        head = λ d. n (fit .lawful .clash-grows _ T′ (with-head fit T (a .counts) (λ m u. w m (t m u))) w (with-within T T′ (r .head) h t) d);
-      }
-
   pub T-within-U : {k : ℕ} {T U : Marks} → Run (first-method B lines facts) k T U → (Clashes B T → ⊥) → T ⊆ U
   T-within-U start n = none-within _
   T-within-U (round {T = T} {V = U} {T′ = T′} {V′ = U′} run r) n =
       let w = r .full .of-width in
       let t : T ⊆ T′ = moves fit run r .0 in
       let before : T ⊆ U = T-within-U run (λ c. n (fit .lawful .clash-grows T T′ (T-width run) w t c)) in
-      let within-old : T′ ⊆ U = full-within U (r .full) (U-width run) (U-closed fit run) (λ q a c h. U-heads fit T (T-width run) run (λ m u. u) q (allowed-at T T′ U w t before n a h) c) in
-      full-within U′ (r .full) (r .guarded .of-width) (r .guarded .closed) (λ q a c h. r .guarded .heads q (allowed-at T′ T′ U w (λ m u. u) within-old n a h) c)
+      let old : T′ ⊆ U = least-in B (fit .lawful) (r .full) U (U-width run) (none-within U) (U-closed fit run)
+      (λ q a cx c h. U-heads fit T (T-width run) run (λ m u. u) q (allowed-at fit T T′ U w t before n a h) c) in
+      least-in B (fit .lawful) (r .full) U′ (r .guarded .of-width) (none-within U′) (r .guarded .closed)
+      (λ q a cx c h. r .guarded .heads q (allowed-at fit T′ T′ U w (λ m u. u) old n a h) c)
 
   clash-if-broken : {T U : Marks} → Least-reading B lines facts T U → Is-broken B T U → Clashes B T
   clash-if-broken {T} p (inl c) = fit .lawful .clash-grows no-marks T (none-within _) (p .reading .full .of-width) (none-within T) c

@@ -1,8 +1,8 @@
 -- Closed sets of a lawful book, and the least closed sets with the heads of some rules.
 use mathlib.Core.Path.{_≡_}
-use Rattle.marks.specs.Sets.{Marks, _⊆_, below, no-marks, Of-width, _∩_}
+use Rattle.marks.specs.Sets.{Marks, _∈_, _⊆_, below, no-marks, Of-width, _∩_}
 use Rattle.readings.specs.Books.{Book, Lawful, Closed}
-use Rattle.readings.specs.Rules.{Rule}
+use Rattle.readings.specs.Rules.{Rule, All-in}
 use Rattle.readings.specs.Yields.{Least-closed}
 use Rattle.readings.proofs.Sets.{same, both, within-same, meet-left, meet-right}
 
@@ -23,6 +23,20 @@ module _ (B : Book) (law : Lawful B) where
     where
       w : Of-width (B .width) (X ∩ Y)
       w m t = x m (meet-left X Y m t)
+
+  -- to show that X lies within Z, take conditions and head for marks of X
+  pub least-in : {A X : Marks} {P : Rule → Type 0} → Least-closed B A P X → (Z : Marks) → Of-width (B .width) Z → A ⊆ Z
+      → Closed B Z
+      → ((r : Rule) → P r → All-in (r .conditions) X → All-in (r .conditions) Z → r .head ∈ X → r .head ∈ Z) → X ⊆ Z
+  least-in {X = X} p Z zw za zc zh m t =
+      meet-right X Z m
+      (p .least (X ∩ Z) (λ n u. zw n (meet-right X Z n u)) (λ n u. both (X n) (Z n) (p .around n u) (za n u))
+      (meet-closed X Z (p .of-width) zw (p .closed) zc)
+      (λ r i c.
+      let cx : All-in (r .conditions) X = λ k j. meet-left X Z k (c k j) in
+      let h : r .head ∈ X = p .heads r i cx in
+      both (X (r .head)) (Z (r .head)) h (zh r i cx (λ k j. meet-right X Z k (c k j)) h))
+      m t)
 
 -- more rules and a greater start give a greater set
 pub least-within : {B : Book} {A A′ : Marks} {P Q : Rule → Type 0} {X Y : Marks} → A ⊆ Y → ((r : Rule) → P r → Q r)

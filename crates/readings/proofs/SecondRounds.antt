@@ -4,13 +4,13 @@ use mathlib.Core.List.{List}
 use mathlib.Core.Path.{_≡_, refl, subst, sym, ap, fun-ext, _∙_}
 use Prim.Native.Nat.{ℕ}
 use lib.Dec.{T}
-use Rattle.marks.specs.Sets.{Marks, _⊆_, below, no-marks, Of-width, _∪_, _∩_, outside}
+use Rattle.marks.specs.Sets.{Marks, _⊆_, below, no-marks, Of-width, _∪_, outside}
 use Rattle.readings.specs.Books.{Book, Closed}
 use Rattle.readings.specs.Rules.{Rule, Counts, Fit, All-in, None-in}
 use Rattle.readings.specs.Yields.{Has-heads, Least-closed, Admitted, Allowed, Full, Guarded}
 use Rattle.readings.specs.Methods.{Run, start, round, First-round, first-method, Past-exceptions, Not-refuted, Second-round, second-method}
-use Rattle.readings.proofs.Sets.{same, both, or-left, join-within, meet-left, meet-right, less-out, not-outside, outside-twice}
-use Rattle.readings.proofs.Closing.{none-within, all-closed, meet-closed}
+use Rattle.readings.proofs.Sets.{same, or-left, join-within, less-out, not-outside, outside-twice}
+use Rattle.readings.proofs.Closing.{none-within, all-closed, least-in}
 use Rattle.readings.proofs.Yields.{counts-within, head-within, admitted-falls, allowed-falls}
 use Rattle.readings.proofs.FirstRounds.{U-width, moves}
 
@@ -115,14 +115,7 @@ module _ {B : Book} {lines : List Rule} {facts : Marks} (fit : Fit B lines facts
           around = none-within Y;
           closed = p .closed;
           heads = λ r n c. p .heads r (allowed F T′ n) c;
-          least = λ Z zw za zc zh m t.
-              meet-left Z Y m
-              (p .least (Z ∩ Y) (λ n u. zw n (meet-left Z Y n u)) (none-within (Z ∩ Y)) (meet-closed B (fit .lawful) Z Y zw (p .of-width) zc (p .closed))
-              (λ r a c.
-              let cz : All-in (r .conditions) Z = λ n j. meet-left Z Y n (c n j) in
-              let cy : All-in (r .conditions) Y = λ n j. meet-right Z Y n (c n j) in
-              both (Z (r .head)) (Y (r .head)) (zh r (not-refuted F T′ Y o cy a) cz) (p .heads r a cy))
-              m t);
+          least = λ Z zw za zc zh. least-in B (fit .lawful) p Z zw za zc (λ r a cy cz h. zh r (not-refuted F T′ Y o cy a) cz);
         }
 
   pub second-first : {k : ℕ} {T F : Marks} → Run (second-method B lines facts) k T F

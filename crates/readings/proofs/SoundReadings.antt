@@ -1,47 +1,31 @@
 -- Sound readings lie between the sets of the least reading.
 use mathlib.Core.List.{List}
 use mathlib.Core.Logic.{inl, inr}
-use Rattle.marks.specs.Sets.{Marks, _∈_, _⊆_, no-marks, _∩_}
+use Rattle.marks.specs.Sets.{Marks, _⊆_, no-marks}
 use Rattle.readings.specs.Books.{Book}
 use Rattle.readings.specs.Rules.{Rule, Fit}
-use Rattle.readings.specs.Yields.{Full}
 use Rattle.readings.specs.Readings.{Reading, Least-reading, Sound}
 use Rattle.readings.specs.Says.{Is-broken}
-use Rattle.readings.proofs.Sets.{both, meet-left, meet-right, with-within}
-use Rattle.readings.proofs.Closing.{none-within, meet-closed}
-use Rattle.readings.proofs.Yields.{with-head}
+use Rattle.readings.proofs.Closing.{none-within, least-in}
+use Rattle.readings.proofs.Yields.{allowed-at}
 
 module _ {B : Book} {lines : List Rule} {facts : Marks} (fit : Fit B lines facts) where
   -- a sound reading is a reading: nothing that it has is denied at it
   pub sound-reads : {M : Marks} → Sound B lines facts M → Reading B lines facts M M
   sound-reads {M} s =
       record {
-        full = f;
+        full = s .full;
         guarded =
             record {
-              of-width = f .of-width;
+              of-width = s .full .of-width;
               around = none-within M;
-              closed = f .closed;
-              heads = λ r a. f .heads r (a .admitted);
-              least = λ Z zw za zc zh m t.
-                  meet-left Z M m
-                  (f .least (Z ∩ M) (λ n u. zw n (meet-left Z M n u)) (none-within (Z ∩ M)) (meet-closed B (fit .lawful) Z M zw (f .of-width) zc (f .closed))
-                  (λ r a c.
-                  let h : r .head ∈ M = f .heads r a (λ k j. meet-right Z M k (c k j)) in
-                  both (Z (r .head)) (M (r .head))
-                  (zh r
-                  (record {
-                    admitted = a;
-                    head = λ d. s .no-clash (fit .lawful .clash-grows _ M (with-head fit M (a .counts) (f .of-width)) (f .of-width) (with-within M M (r .head) h (λ k u. u)) d);
-                  })
-                  (λ k j. meet-left Z M k (c k j)))
-                  h)
-                  m t);
+              closed = s .full .closed;
+              heads = λ r a. s .full .heads r (a .admitted);
+              least = λ Z zw za zc zh.
+                  least-in B (fit .lawful) (s .full) Z zw za zc
+                  (λ r a cm cz h. zh r (allowed-at fit M M M (s .full .of-width) (λ m t. t) (λ m t. t) (s .no-clash) a h) cz);
             };
       }
-    where
-      f : Full B lines facts M M
-      f = s .full
 
   pub sound-between : {T U M : Marks} → Least-reading B lines facts T U → Sound B lines facts M → (T ⊆ M) × (M ⊆ U)
   sound-between p s = p .least _ _ (sound-reads s)

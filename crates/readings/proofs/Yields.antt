@@ -1,7 +1,7 @@
 -- Yields are unique and fall as the set grows; the guarded lies within the full.
 use mathlib.Core.List.{List, List·Memᴰ·not-nil}
 use Rattle.marks.specs.Sets.{Marks, _∈_, _⊆_, below, Of-width, with-mark}
-use Rattle.readings.specs.Books.{Book}
+use Rattle.readings.specs.Books.{Book, Clashes}
 use Rattle.readings.specs.Rules.{Rule, Counts, line, stands, Rule-within, Fit}
 use Rattle.readings.specs.Yields.{Admitted, Allowed, Full, Guarded}
 use Rattle.readings.proofs.Sets.{with-within, with-grows}
@@ -31,6 +31,15 @@ module _ {B : Book} {lines : List Rule} {facts : Marks} (fit : Fit B lines facts
       record {
         admitted = admitted-falls S s (a .admitted);
         head = λ d. a .head (fit .lawful .clash-grows _ _ (with-head S i (λ m t. w m (s m t))) (with-head S′ i w) (with-grows S S′ (r .head) s) d);
+      }
+
+  -- a rule with its head in T′ is allowed at T within T′, where the book does not clash at T′
+  pub allowed-at : (T T′ S : Marks) {r : Rule} → Of-width (B .width) T′ → T ⊆ T′ → T ⊆ S → (Clashes B T′ → ⊥)
+      → Admitted lines facts S r → r .head ∈ T′ → Allowed B lines facts T r
+  allowed-at T T′ S {r} w t s n a h =
+      record {
+        admitted = record { counts = a .counts; exceptions = λ m j u. a .exceptions m j (s m u) };
+        head = λ d. n (fit .lawful .clash-grows _ T′ (with-head T (a .counts) (λ m u. w m (t m u))) w (with-within T T′ (r .head) h t) d);
       }
 
   pub full-falls : (S S′ : Marks) {X X′ : Marks} → S ⊆ S′ → Full B lines facts S X → Full B lines facts S′ X′ → X′ ⊆ X
