@@ -1,4 +1,4 @@
--- Exactly one.
+-- What it is for exactly one thing to have a property.
 use mathlib.Core.Path.{_≡_}
 
 -- there is exactly one thing of which P holds
