@@ -1,0 +1,57 @@
+// The program for fitters and tariff writers: it shows what the module makes of the bytes it is given.
+mod facts;
+mod hex;
+mod text;
+
+use facts::show_facts;
+use hex::hex_bytes;
+use std::env;
+use std::error::AnyError;
+
+const HELP: &str = "\
+fare                              the sample: the facts string 02 00 03 at width 5
+fare facts WIDTH HEX [WIDTH HEX]  reads each facts string for its width, prints its marks,
+                                  and writes it back
+fare --help                       this text";
+
+fn main(rt: LibcRuntime) -> Result<(), AnyError> {
+    rt.report(run(&rt))
+}
+
+fn run(rt: &LibcRuntime) -> Result<(), AnyError> {
+    let mut words = env::args(rt)?;
+    let _program = words.next();
+    let Some(command) = words.next() else {
+        return sample(rt);
+    };
+    match command.as_str() {
+        "facts" => facts_strings(rt, words),
+        "--help" => Ok(rt.println(HELP)?),
+        _ => Err("no such command: fare --help lists them".into()),
+    }
+}
+
+// The clipped trip of the sample tariff: the count is at 255, and was read.
+fn sample(rt: &LibcRuntime) -> Result<(), AnyError> {
+    show_facts(rt, 5, &[2, 0, 3])?;
+    rt.println("fare --help says how to go on")?;
+    Ok(())
+}
+
+// Takes the words two by two: a width and a facts string.
+fn facts_strings(rt: &LibcRuntime, words: env::Args) -> Result<(), AnyError> {
+    let mut width = None;
+    for word in words {
+        match width {
+            None => width = Some(word.as_str().parse::<u16>()?),
+            Some(w) => {
+                show_facts(rt, w, &hex_bytes(rt.alloc(), word.as_str())?)?;
+                width = None;
+            }
+        }
+    }
+    match width {
+        None => Ok(()),
+        Some(_) => Err("a facts string must follow its width".into()),
+    }
+}

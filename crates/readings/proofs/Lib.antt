@@ -1,0 +1,16 @@
+pub mod Sets
+pub mod Sizes
+pub mod Closing
+pub mod Yields
+pub mod FirstRounds
+pub mod SecondRounds
+pub mod Bound
+pub mod Listing
+pub mod Filling
+pub mod Computing
+pub mod Stopping
+pub mod SoundReadings
+pub mod BrokenSheets
+pub mod Verdicts
+pub mod WellFounded
+pub mod Statements

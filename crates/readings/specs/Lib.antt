@@ -1,0 +1,10 @@
+pub mod Books
+pub mod Rules
+pub mod Yields
+pub mod Readings
+pub mod Methods
+pub mod Says
+pub mod WellFounded
+pub mod Computed
+pub mod ExactlyOne
+pub mod Theorems
