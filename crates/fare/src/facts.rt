@@ -41,7 +41,11 @@ fn show_read(rt: &LibcRuntime, bytes: &[u8], facts: &MarkSet) -> io::Result<()> 
         Ok(length) => {
             let written = &out[0..length];
             let shown = Hex(written);
-            let same = if written == bytes { "the same" } else { "other" };
+            let same = if written == bytes {
+                "the same"
+            } else {
+                "other"
+            };
             println!(rt, "  written back {shown}: {same} bytes")
         }
     }

@@ -43,7 +43,10 @@ fn facts_strings(rt: &LibcRuntime, words: env::Args) -> Result<(), AnyError> {
     let mut width = None;
     for word in words {
         match width {
-            None => width = Some(word.as_str().parse::<u16>()?),
+            None => match word.as_str().parse::<u16>() {
+                Ok(w) => width = Some(w),
+                Err(_) => return Err("a width is a number up to 65,535".into()),
+            },
             Some(w) => {
                 show_facts(rt, w, &hex_bytes(rt.alloc(), word.as_str())?)?;
                 width = None;

@@ -4,22 +4,24 @@ use marks::set::MarkSet;
 use std::fmt;
 
 // Bytes in hex: 02 00 03.
+#[derive(Clone, Copy)]
 pub(crate) struct Hex<'a>(pub(crate) &'a [u8]);
 
-impl fmt::Display for Hex<'_> as HexDisplay {
+pub(crate) impl fmt::Display for Hex<'_> as HexDisplay {
     fn fmt<W: fmt::Write>(&self, f: &mut fmt::Formatter<W>) -> fmt::Result {
         for (i, b) in self.0.iter().enumerate() {
             let gap = if i == 0 { "" } else { " " };
-            write!(f, "{gap}{b:02x}")?;
+            write!(f, "{gap}{b:02X}")?;
         }
         Ok(())
     }
 }
 
 // A set by its marks, in ascending order: {0, 3}.
+#[derive(Clone, Copy)]
 pub(crate) struct Braced<'a>(pub(crate) &'a MarkSet);
 
-impl fmt::Display for Braced<'_> as BracedDisplay {
+pub(crate) impl fmt::Display for Braced<'_> as BracedDisplay {
     fn fmt<W: fmt::Write>(&self, f: &mut fmt::Formatter<W>) -> fmt::Result {
         f.write_str("{")?;
         let mut at = 0;
