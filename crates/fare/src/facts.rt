@@ -3,8 +3,8 @@ use crate::text::Braced;
 use crate::text::BracedDisplay;
 use crate::text::Hex;
 use crate::text::HexDisplay;
-use crate::text::sentence;
-use marks::refusal::Refusal;
+use crate::text::show_fault;
+use crate::text::show_refusal;
 use marks::set::MarkSet;
 use std::io;
 use tariff::facts::read_facts;
@@ -21,12 +21,7 @@ pub(crate) fn show_facts(rt: &LibcRuntime, width: u16, bytes: &[u8]) -> io::Resu
         Err(refusal) => return show_refusal(rt, refusal),
     };
     match read_facts(bytes, &mut facts) {
-        Err(fault) => {
-            let number = fault.refusal.number();
-            let byte = fault.byte;
-            let why = sentence(fault.refusal);
-            println!(rt, "  refused with {number} at byte {byte}: {why}")
-        }
+        Err(fault) => show_fault(rt, fault),
         Ok(()) => show_read(rt, bytes, &facts),
     }
 }
@@ -49,10 +44,4 @@ fn show_read(rt: &LibcRuntime, bytes: &[u8], facts: &MarkSet) -> io::Result<()> 
             println!(rt, "  written back {shown}: {same} bytes")
         }
     }
-}
-
-fn show_refusal(rt: &LibcRuntime, refusal: Refusal) -> io::Result<()> {
-    let number = refusal.number();
-    let why = sentence(refusal);
-    println!(rt, "  refused with {number}: {why}")
 }

@@ -1,10 +1,12 @@
 // The program for fitters and tariff writers: it shows what the module makes of the bytes it is given.
 mod facts;
 mod hex;
+mod numbers;
 mod text;
 
 use facts::show_facts;
 use hex::hex_bytes;
+use numbers::show_number;
 use std::env;
 use std::error::AnyError;
 
@@ -12,6 +14,8 @@ const HELP: &str = "\
 fare                              the sample: the facts string 02 00 03 at width 5
 fare facts WIDTH HEX [WIDTH HEX]  reads each facts string for its width, prints its marks,
                                   and writes it back
+fare numbers HEX [HEX]            reads the number at the front of each, and writes it back
+fare -                            performs the commands in its input, one to a line
 fare --help                       this text";
 
 fn main(rt: LibcRuntime) -> Result<(), AnyError> {
@@ -19,13 +23,34 @@ fn main(rt: LibcRuntime) -> Result<(), AnyError> {
 }
 
 fn run(rt: &LibcRuntime) -> Result<(), AnyError> {
-    let mut words = env::args(rt)?;
-    let _program = words.next();
-    let Some(command) = words.next() else {
-        return sample(rt);
+    let words: Vec<String> = env::args(rt)?.skip(1).collect(rt.alloc())?;
+    match words.as_slice() {
+        [] => sample(rt),
+        [word] if word.as_str() == "-" => performed(rt),
+        all => perform(rt, all),
+    }
+}
+
+// Performs the commands in the input, one to a line.
+fn performed(rt: &LibcRuntime) -> Result<(), AnyError> {
+    for line in rt.lines(rt.alloc()) {
+        let line = line?;
+        let mut words = Vec::new(rt.alloc());
+        for word in line.as_str().split_whitespace() {
+            words.push(String::from_str(rt.alloc(), word)?)?;
+        }
+        perform(rt, words.as_slice())?;
+    }
+    Ok(())
+}
+
+fn perform(rt: &LibcRuntime, words: &[String]) -> Result<(), AnyError> {
+    let [command, rest @ ..] = words else {
+        return Ok(());
     };
     match command.as_str() {
-        "facts" => facts_strings(rt, words),
+        "facts" => facts_strings(rt, rest),
+        "numbers" => number_strings(rt, rest),
         "--help" => Ok(rt.println(HELP)?),
         _ => Err("no such command: fare --help lists them".into()),
     }
@@ -39,7 +64,7 @@ fn sample(rt: &LibcRuntime) -> Result<(), AnyError> {
 }
 
 // Takes the words two by two: a width and a facts string.
-fn facts_strings(rt: &LibcRuntime, words: env::Args) -> Result<(), AnyError> {
+fn facts_strings(rt: &LibcRuntime, words: &[String]) -> Result<(), AnyError> {
     let mut width = None;
     for word in words {
         match width {
@@ -57,4 +82,11 @@ fn facts_strings(rt: &LibcRuntime, words: env::Args) -> Result<(), AnyError> {
         None => Ok(()),
         Some(_) => Err("a facts string must follow its width".into()),
     }
+}
+
+fn number_strings(rt: &LibcRuntime, words: &[String]) -> Result<(), AnyError> {
+    for word in words {
+        show_number(rt, &hex_bytes(rt.alloc(), word.as_str())?)?;
+    }
+    Ok(())
 }

@@ -1,7 +1,9 @@
-// Bytes, sets and refusals in words.
+// Bytes, sets, refusals and faults in words.
 use marks::refusal::Refusal;
 use marks::set::MarkSet;
 use std::fmt;
+use std::io;
+use tariff::fault::NumberFault;
 
 // Bytes in hex: 02 00 03.
 #[derive(Clone, Copy)]
@@ -52,4 +54,17 @@ pub(crate) fn sentence(refusal: Refusal) -> &'static str {
         Refusal::NotSettled => "the sheet is not settled",
         Refusal::OutputShort => "the output is too short",
     }
+}
+
+pub(crate) fn show_refusal(rt: &LibcRuntime, refusal: Refusal) -> io::Result<()> {
+    let number = refusal.number();
+    let why = sentence(refusal);
+    println!(rt, "  refused with {number}: {why}")
+}
+
+pub(crate) fn show_fault(rt: &LibcRuntime, fault: NumberFault) -> io::Result<()> {
+    let number = fault.refusal.number();
+    let byte = fault.byte;
+    let why = sentence(fault.refusal);
+    println!(rt, "  refused with {number} at byte {byte}: {why}")
 }
