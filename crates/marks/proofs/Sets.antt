@@ -27,8 +27,8 @@ same-test true b f g = sym (is-true b (f tt))
 same-test false b f g = sym (is-false b g)
 
 -- sets that lie within one another are equal
-pub same-sets : (S S′ : Marks) → S ⊆ S′ → S′ ⊆ S → S ≡ S′
-same-sets S S′ f g = fun-ext (λ m. same-test (S m) (S′ m) (f m) (g m))
+pub same-sets : {S S′ : Marks} → S ⊆ S′ → S′ ⊆ S → S ≡ S′
+same-sets {S} {S′} f g = fun-ext (λ m. same-test (S m) (S′ m) (f m) (g m))
 
 pub equal-within : {S S′ : Marks} → S ≡ S′ → S ⊆ S′
 equal-within e m t = subst (λ (X : Marks). m ∈ X) e t
@@ -65,3 +65,11 @@ part-inside w S S′ f m = go (S m) (f m)
     go : (b : Bool) → (T b → m ∈ below w) → T (b && S′ m) → m ∈ below w
     go true f t = f tt
     go false f t = absurd t
+
+-- a mark that is there already
+pub with-there : (S : Marks) (k : ℕ) → k ∈ S → with-mark S k ≡ S
+with-there S k h = fun-ext (λ m. go m (eqb m k) (eqb→eq m k))
+  where
+    go : (m : ℕ) (b : Bool) → (T b → m ≡ k) → (b || S m) ≡ S m
+    go m true e = sym (is-true (S m) (subst (λ (j : ℕ). j ∈ S) (sym (e tt)) h))
+    go m false e = refl

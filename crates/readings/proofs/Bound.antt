@@ -9,8 +9,9 @@ use Rattle.readings.specs.Books.{Book}
 use Rattle.readings.specs.Rules.{Rule, Fit}
 use Rattle.readings.specs.Yields.{Full, Guarded}
 use Rattle.readings.specs.Methods.{Run, start, round, First-round, first-method}
-use Rattle.readings.proofs.Sets.{same}
-use Rattle.readings.proofs.Sizes.{size-le, same-or-more}
+use Rattle.marks.proofs.Sets.{same-sets}
+use Rattle.marks.proofs.Sizes.{size-le}
+use Rattle.readings.proofs.Sizes.{same-or-more}
 use Rattle.readings.proofs.Closing.{least-unique}
 use Rattle.readings.proofs.FirstRounds.{moves}
 
@@ -30,7 +31,7 @@ module _ {B : Book} {lines : List Rule} {facts : Marks} (fit : Fit B lines facts
       go : ((T₀ ≡ T) × (U₀ ≡ U)) ⊎ (k ≤ size (B .width) T) → (T′ ⊆ T) ⊎ (size (B .width) T < size (B .width) T′)
           → ((T ≡ T′) × (U ≡ U′)) ⊎ (suc k ≤ size (B .width) T′)
       go (inl e) q = inl (rest (r₀ .guarded) r (least-unique (subst (λ (V : Marks). Full B lines facts V T) (e .1) (r₀ .full)) (r .full)))
-      go (inr h) (inl q) = inl (rest (r₀ .guarded) r (same t q))
+      go (inr h) (inl q) = inl (rest (r₀ .guarded) r (same-sets t q))
       go (inr h) (inr q) = inr (omega arith)
 
   -- after more rounds than the width nothing changes

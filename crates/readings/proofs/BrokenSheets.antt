@@ -9,7 +9,8 @@ use Rattle.readings.specs.Rules.{Rule, Fit}
 use Rattle.readings.specs.Readings.{Least-reading}
 use Rattle.readings.specs.Methods.{Run, start, round, first-method}
 use Rattle.readings.specs.Says.{Is-broken}
-use Rattle.readings.proofs.Sets.{within-same, with-old, within-or-lacks, decide}
+use Rattle.marks.proofs.Sets.{equal-within}
+use Rattle.readings.proofs.Sets.{with-old, within-or-lacks, decide}
 use Rattle.readings.proofs.Closing.{none-within, least-in}
 use Rattle.readings.proofs.Yields.{with-head, allowed-at}
 use Rattle.readings.proofs.FirstRounds.{T-width, U-width, moves}
@@ -51,7 +52,7 @@ module _ {B : Book} {lines : List Rule} {facts : Marks} (fit : Fit B lines facts
       none-width = fit .lawful .of-width no-marks (none-within _)
 
       all : below (B .width) ⊆ T
-      all = within-same (sym (fit .lawful .clash-gives-all T w c) ∙ p .reading .full .closed)
+      all = equal-within (sym (fit .lawful .clash-gives-all T w c) ∙ p .reading .full .closed)
 
       U-within : U ⊆ B .closure no-marks
       U-within =

@@ -4,14 +4,15 @@ use Rattle.marks.specs.Sets.{Marks, _∈_, _⊆_, below, no-marks, Of-width, _�
 use Rattle.readings.specs.Books.{Book, Lawful, Closed}
 use Rattle.readings.specs.Rules.{Rule, All-in}
 use Rattle.readings.specs.Yields.{Least-closed}
-use Rattle.readings.proofs.Sets.{same, both, within-same, meet-left, meet-right}
+use Rattle.marks.proofs.Sets.{equal-within, same-sets}
+use Rattle.readings.proofs.Sets.{both, meet-left, meet-right}
 
 pub none-within : (X : Marks) → no-marks ⊆ X
 none-within X m t = absurd t
 
 module _ (B : Book) (law : Lawful B) where
   pub closed-if : (X : Marks) → Of-width (B .width) X → B .closure X ⊆ X → Closed B X
-  closed-if X x c = same c (law .extensive X x)
+  closed-if X x c = same-sets c (law .extensive X x)
 
   pub all-closed : Closed B (below (B .width))
   all-closed = closed-if (below (B .width)) (λ m t. t) (law .of-width (below (B .width)) (λ m t. t))
@@ -19,7 +20,7 @@ module _ (B : Book) (law : Lawful B) where
   pub meet-closed : (X Y : Marks) → Of-width (B .width) X → Of-width (B .width) Y → Closed B X → Closed B Y → Closed B (X ∩ Y)
   meet-closed X Y x y cx cy =
       closed-if (X ∩ Y) w
-      (λ m t. both (X m) (Y m) (within-same cx m (law .monotone (X ∩ Y) X w x (meet-left X Y) m t)) (within-same cy m (law .monotone (X ∩ Y) Y w y (meet-right X Y) m t)))
+      (λ m t. both (X m) (Y m) (equal-within cx m (law .monotone (X ∩ Y) X w x (meet-left X Y) m t)) (equal-within cy m (law .monotone (X ∩ Y) Y w y (meet-right X Y) m t)))
     where
       w : Of-width (B .width) (X ∩ Y)
       w m t = x m (meet-left X Y m t)
@@ -44,7 +45,7 @@ pub least-within : {B : Book} {A A′ : Marks} {P Q : Rule → Type 0} {X Y : Ma
 least-within {Y = Y} a f p q = p .least Y (q .of-width) a (q .closed) (λ r i. q .heads r (f r i))
 
 pub least-unique : {B : Book} {A : Marks} {P : Rule → Type 0} {X Y : Marks} → Least-closed B A P X → Least-closed B A P Y → X ≡ Y
-least-unique p q = same (least-within (q .around) (λ r i. i) p q) (least-within (p .around) (λ r i. i) q p)
+least-unique p q = same-sets (least-within (q .around) (λ r i. i) p q) (least-within (p .around) (λ r i. i) q p)
 
 -- the same rules under another description
 pub least-by : {B : Book} {A : Marks} {P Q : Rule → Type 0} {X : Marks} → ((r : Rule) → P r → Q r) → ((r : Rule) → Q r → P r)

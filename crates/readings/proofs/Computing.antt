@@ -13,7 +13,8 @@ use Rattle.readings.specs.Rules.{Rule, Counts, line, stands, fact, Fit}
 use Rattle.readings.specs.Yields.{Full, Guarded}
 use Rattle.readings.specs.Methods.{Run, start, round, First-round, first-method, Stops}
 use Rattle.readings.specs.Computed.{listed, among, agree, has-none, all-rules, full-of, guarded-of, settle-from, settled-of}
-use Rattle.readings.proofs.Sets.{both, left, right, within-same}
+use Rattle.marks.proofs.Sets.{equal-within}
+use Rattle.readings.proofs.Sets.{both, left, right}
 use Rattle.readings.proofs.Closing.{none-within, least-unique, least-by}
 use Rattle.readings.proofs.Yields.{head-within}
 use Rattle.readings.proofs.FirstRounds.{T-width, U-width, run-unique}
@@ -31,14 +32,14 @@ module _ {B : Book} {lines : List Rule} {facts : Marks} (fit : Fit B lines facts
 
   counted : {r : Rule} → Counts lines facts r → List·Memᴰ r (all-rules (B .width) lines facts)
   counted (line i) = Memᴰ·append-right (map fact (listed (B .width) facts)) i
-  counted (stands {m} t) = Memᴰ·append-left lines (Memᴰ·map fact (in-among m (listed (B .width) facts) (within-same (sym (among-listed (B .width) facts (fit .of-width))) m t)))
+  counted (stands {m} t) = Memᴰ·append-left lines (Memᴰ·map fact (in-among m (listed (B .width) facts) (equal-within (sym (among-listed (B .width) facts (fit .of-width))) m t)))
 
   counting : (r : Rule) → List·Memᴰ r (all-rules (B .width) lines facts) → Counts lines facts r
   counting r i =
       elim (List·Memᴰ·append-cases (map fact (listed (B .width) facts)) i) [
         | inl j ↦
             let f = Memᴰ·of-map fact (listed (B .width) facts) j in
-            subst (Counts lines facts) (f .2) (stands (within-same (among-listed (B .width) facts (fit .of-width)) (f .0) (among-in (listed (B .width) facts) (f .1))))
+            subst (Counts lines facts) (f .2) (stands (equal-within (among-listed (B .width) facts (fit .of-width)) (f .0) (among-in (listed (B .width) facts) (f .1))))
         | inr j ↦ line j
       ]
 

@@ -10,7 +10,8 @@ use Rattle.readings.specs.Books.{Book, Lawful, Closed}
 use Rattle.readings.specs.Rules.{Rule, All-in}
 use Rattle.readings.specs.Yields.{Has-heads, Least-closed}
 use Rattle.readings.specs.Computed.{among, has-all, fired, filled}
-use Rattle.readings.proofs.Sets.{both, left, right, or-left, or-right, or-cases, join-within, within-same}
+use Rattle.marks.proofs.Sets.{equal-within}
+use Rattle.readings.proofs.Sets.{both, left, right, or-left, or-right, or-cases, join-within}
 use Rattle.readings.proofs.Sizes.{iterate, iterate-width, iterate-around, at-rest}
 use Rattle.readings.proofs.Closing.{closed-if}
 use Rattle.readings.proofs.Listing.{among-listed, has-all-in, in-has-all}
@@ -89,7 +90,7 @@ module _ (B : Book) (law : Lawful B) (rules : List Rule) (within : (r : Rule) �
 
   step-within : (X Z : Marks) → Of-width (B .width) X → Of-width (B .width) Z → X ⊆ Z → Closed B Z
       → Has-heads (Passing rules passes) Z → step X ⊆ Z
-  step-within X Z x z s zc zh m t = within-same zc m (law .monotone (adding X) Z (adding-width X x) z (adding-within X Z s zh) m t)
+  step-within X Z x z s zc zh m t = equal-within zc m (law .monotone (adding X) Z (adding-width X x) z (adding-within X Z s zh) m t)
 
   step-grows : (X Y : Marks) → Of-width (B .width) X → Of-width (B .width) Y → X ⊆ Y → step X ⊆ step Y
   step-grows X Y x y s =
@@ -133,7 +134,7 @@ module _ (B : Book) (law : Lawful B) (rules : List Rule) (within : (r : Rule) �
     filled-after zero = refl
     filled-after (suc n) =
         let X = among (filled B rules passes n ms) in
-        let x : Of-width (B .width) X = λ m t. after-width (among ms) a n m (within-same (filled-after n) m t) in
+        let x : Of-width (B .width) X = λ m t. after-width (among ms) a n m (equal-within (filled-after n) m t) in
         among-listed (B .width) (step X) (step-width X x) ∙ ap step (filled-after n)
 
     pub filled-least : Least-closed B (among ms) (Passing rules passes) (among (filled B rules passes (B .width) ms))

@@ -8,7 +8,7 @@ use Rattle.readings.specs.Rules.{Rule, Fit}
 use Rattle.readings.specs.Yields.{Full, Guarded}
 use Rattle.readings.specs.Readings.{Reading, Least-reading}
 use Rattle.readings.specs.Methods.{Run, start, round, First-round, first-method}
-use Rattle.readings.proofs.Sets.{same}
+use Rattle.marks.proofs.Sets.{same-sets}
 use Rattle.readings.proofs.Closing.{none-within, least-unique}
 use Rattle.readings.proofs.Yields.{full-falls, guarded-falls}
 
@@ -34,7 +34,7 @@ module _ {B : Book} {lines : List Rule} {facts : Marks} where
   least-reading-unique p q =
       let a = p .least _ _ (q .reading) in
       let b = q .least _ _ (p .reading) in
-      (same (a .0) (b .0), same (b .1) (a .1))
+      (same-sets (a .0) (b .0), same-sets (b .1) (a .1))
 
 module _ {B : Book} {lines : List Rule} {facts : Marks} (fit : Fit B lines facts) where
   pub moves : {k : ℕ} {T U T′ U′ : Marks} → Run (first-method B lines facts) k T U → First-round B lines facts U T′ U′

@@ -9,7 +9,8 @@ use lib.Dec.{T, eqb, eqb→eq, eqb-refl, ltb→lt, T-not, not-T}
 use Rattle.marks.specs.Sets.{Marks, _∈_, _⊆_, Of-width}
 use Rattle.readings.specs.Rules.{All-in, None-in, Some-in}
 use Rattle.readings.specs.Computed.{keep, listed, among, same-bit, agree, has-all, has-none}
-use Rattle.readings.proofs.Sets.{both, left, right, or-left, or-right, or-cases, decide, same}
+use Rattle.marks.proofs.Sets.{same-sets}
+use Rattle.readings.proofs.Sets.{both, left, right, or-left, or-right, or-cases, decide}
 
 -- the set of a list has exactly its marks
 
@@ -56,7 +57,7 @@ in-listed (suc w) S m h t =
     ]
 
 pub among-listed : (w : ℕ) (S : Marks) → Of-width w S → among (listed w S) ≡ S
-among-listed w S s = same (listed-in w S) (λ m t. in-listed w S m (ltb→lt m w (s m t)) t)
+among-listed w S s = same-sets (listed-in w S) (λ m t. in-listed w S m (ltb→lt m w (s m t)) t)
 
 -- sets that agree below the width are the same
 
@@ -80,7 +81,7 @@ agree-below (suc w) X Y t m h =
 
 pub agree-same : (w : ℕ) (X Y : Marks) → Of-width w X → Of-width w Y → T (agree w X Y) → X ≡ Y
 agree-same w X Y x y t =
-    same (λ m i. subst T (agree-below w X Y t m (ltb→lt m w (x m i))) i)
+    same-sets (λ m i. subst T (agree-below w X Y t m (ltb→lt m w (x m i))) i)
     (λ m i. subst T (sym (agree-below w X Y t m (ltb→lt m w (y m i)))) i)
 
 agree-refl : (w : ℕ) (X : Marks) → T (agree w X X)

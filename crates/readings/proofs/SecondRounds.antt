@@ -9,7 +9,8 @@ use Rattle.readings.specs.Books.{Book, Closed}
 use Rattle.readings.specs.Rules.{Rule, Counts, Fit, All-in, None-in}
 use Rattle.readings.specs.Yields.{Has-heads, Least-closed, Admitted, Allowed, Full, Guarded}
 use Rattle.readings.specs.Methods.{Run, start, round, First-round, first-method, Past-exceptions, Not-refuted, Second-round, second-method}
-use Rattle.readings.proofs.Sets.{same, or-left, join-within, less-out, not-outside, outside-twice}
+use Rattle.marks.proofs.Sets.{same-sets}
+use Rattle.readings.proofs.Sets.{or-left, join-within, less-out, not-outside, outside-twice}
 use Rattle.readings.proofs.Closing.{none-within, all-closed, least-in}
 use Rattle.readings.proofs.Yields.{counts-within, head-within, admitted-falls, allowed-falls}
 use Rattle.readings.proofs.FirstRounds.{U-width, moves}
@@ -157,7 +158,7 @@ module _ {B : Book} {lines : List Rule} {facts : Marks} (fit : Fit B lines facts
           grown = full-grown F before (r′ .full);
           Y = outside (B .width) F;
           kept = guarded-kept F before (λ m t. t) (r′ .guarded);
-          joined = same (λ m t. or-left (F m) (outside (B .width) (outside (B .width) F) m) t)
+          joined = same-sets (λ m t. or-left (F m) (outside (B .width) (outside (B .width) F) m) t)
               (join-within F (outside (B .width) (outside (B .width) F)) F (λ m t. t) (outside-twice (B .width) F));
         },
       )

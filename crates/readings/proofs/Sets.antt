@@ -37,19 +37,7 @@ pub decide : (b : Bool) → T b ⊎ (T b → ⊥)
 decide true = inl tt
 decide false = inr (λ t. t)
 
-pub same-test : (a b : Bool) → (T a → T b) → (T b → T a) → a ≡ b
-same-test true true f g = refl
-same-test true false f g = absurd (f tt)
-same-test false true f g = absurd (g tt)
-same-test false false f g = refl
-
 -- sets
-
-pub same : {X Y : Marks} → X ⊆ Y → Y ⊆ X → X ≡ Y
-same {X} {Y} f g = fun-ext (λ m. same-test (X m) (Y m) (f m) (g m))
-
-pub within-same : {X Y : Marks} → X ≡ Y → X ⊆ Y
-within-same e m t = subst (λ (Z : Marks). m ∈ Z) e t
 
 pub meet-left : (X Y : Marks) → X ∩ Y ⊆ X
 meet-left X Y m = left (X m) (Y m)

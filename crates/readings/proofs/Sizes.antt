@@ -8,10 +8,7 @@ use native.Mathlib.Omega.{arith}
 use lib.Dec.{T, ltb→lt}
 use Rattle.marks.specs.Sets.{Marks, _∈_, _⊆_, Of-width, size}
 use Rattle.readings.proofs.Sets.{within-or-lacks}
-
-bit-le : (b : Bool) → cond b 1 0 ≤ 1
-bit-le true = le-refl _
-bit-le false = zero-le
+use Rattle.marks.proofs.Sizes.{size-le}
 
 bit-grows : (a b : Bool) → (T a → T b) → cond a 1 0 ≤ cond b 1 0
 bit-grows true true f = le-refl _
@@ -22,11 +19,6 @@ bit-more : (a b : Bool) → T b → (T a → ⊥) → cond a 1 0 < cond b 1 0
 bit-more true b t n = absurd (n tt)
 bit-more false true t n = le-refl _
 bit-more false false t n = absurd t
-
-pub size-le : (w : ℕ) (S : Marks) → size w S ≤ w
-unfolding size
-size-le zero S = le-refl _
-size-le (suc w) S = omega (arith, size-le w S, bit-le (S w))
 
 pub size-grows : (w : ℕ) (X Y : Marks) → X ⊆ Y → size w X ≤ size w Y
 unfolding size

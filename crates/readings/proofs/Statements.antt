@@ -7,7 +7,8 @@ use Rattle.readings.specs.Rules.{Rule, Fit}
 use Rattle.readings.specs.Says.{the-verdict}
 use Rattle.readings.specs.Computed.{among, full-of, guarded-of}
 use Rattle.readings.specs.Theorems.{Yields-exist-once, Yields-fall, First-method-finds-it, Methods-stop, Methods-agree, Answers-are-sound, Says-one-thing, Relations-decide, Computed-right}
-use Rattle.readings.proofs.Sets.{or-left, within-same}
+use Rattle.marks.proofs.Sets.{equal-within}
+use Rattle.readings.proofs.Sets.{or-left}
 use Rattle.readings.proofs.Closing.{least-unique}
 use Rattle.readings.proofs.Yields.{full-falls, guarded-falls, guarded-within-full}
 use Rattle.readings.proofs.FirstRounds.{moves, rests-at-least}
@@ -52,7 +53,7 @@ module _ {B : Book} {lines : List Rule} {facts : Marks} (fit : Fit B lines facts
   pub methods-agree : Methods-agree B lines facts
   methods-agree =
       record {
-        grows = λ T F T′ F′ s. (s .grown .around, λ m t. within-same (sym (s .joined)) m (or-left (F m) (outside (B .width) (s .Y) m) t));
+        grows = λ T F T′ F′ s. (s .grown .around, λ m t. equal-within (sym (s .joined)) m (or-left (F m) (outside (B .width) (s .Y) m) t));
         second-as-first = λ k T F. two.second-first fit;
         first-as-second = λ k T U. two.first-second fit;
         stop = λ j k n T U. ends.stop fit j k;

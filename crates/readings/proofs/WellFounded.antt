@@ -11,7 +11,8 @@ use Rattle.readings.specs.Readings.{Least-reading}
 use Rattle.readings.specs.Methods.{Run, start, round, first-method}
 use Rattle.readings.specs.WellFounded.{bare, Unfounded, Founded-pair, Well-founded-model}
 use Rattle.readings.specs.ExactlyOne.{Exactly-one}
-use Rattle.readings.proofs.Sets.{same, or-right, or-cases, less-in, less-left, less-out}
+use Rattle.marks.proofs.Sets.{same-sets}
+use Rattle.readings.proofs.Sets.{or-right, or-cases, less-in, less-left, less-out}
 use Rattle.readings.proofs.Listing.{all-or-lacks, none-or-some}
 use Rattle.readings.proofs.Closing.{none-within}
 use Rattle.readings.proofs.Yields.{counts-within}
@@ -60,7 +61,7 @@ module _ {w : ℕ} {lines : List Rule} {facts : Marks} where
   model-unique p q =
       let a = p .least _ _ (q .pair) in
       let b = q .least _ _ (p .pair) in
-      (same (a .0) (b .0), same (a .1) (b .1))
+      (same-sets (a .0) (b .0), same-sets (a .1) (b .1))
 
 module _ {w : ℕ} {lines : List Rule} {facts : Marks} (fit : Fit (bare w) lines facts) where
   run-within : {k : ℕ} {T U T′ F′ : Marks} → Run (first-method (bare w) lines facts) k T U → Founded-pair w lines facts T′ F′
