@@ -1,0 +1,5 @@
+pub mod Closing
+pub mod Denials
+pub mod Bars
+pub mod BarredBooks
+pub mod Theorems
