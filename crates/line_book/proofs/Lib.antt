@@ -1,0 +1,4 @@
+pub mod Giving
+pub mod Seeing
+pub mod Growing
+pub mod Passes
