@@ -1,0 +1,12 @@
+pub mod Answering
+pub mod Fares
+pub mod Growing
+pub mod Letting
+pub mod Denying
+pub mod Yielding
+pub mod Rounding
+pub mod FirstGoing
+pub mod SecondGoing
+pub mod Settles
+pub mod Judging
+pub mod Founding

@@ -1,0 +1,5 @@
+pub mod Growth
+pub mod Calls
+pub mod Rounding
+pub mod Judging
+pub mod Models

@@ -1,0 +1,11 @@
+// Settling: yields, both methods, the verdict and the test of sound readings, for any book; the well-founded model without one.
+mod deny;
+pub mod first;
+pub mod founded;
+mod grow;
+pub mod second;
+pub mod settle;
+pub mod settled;
+pub mod sound;
+pub mod verdict;
+pub mod yields;
