@@ -1,0 +1,5 @@
+pub mod Fitting
+pub mod Exhausting
+pub mod Stepping
+pub mod Working
+pub mod Results
