@@ -2,19 +2,27 @@
 mod facts;
 mod hex;
 mod numbers;
+mod sample;
+mod settle;
 mod text;
 
 use facts::show_facts;
 use hex::hex_bytes;
 use numbers::show_number;
+use settle::show_closed;
+use settle::show_settled;
+use std::alloc::Global;
 use std::env;
 use std::error::AnyError;
 
 const HELP: &str = "\
-fare                              the sample: the facts string 02 00 03 at width 5
+fare                              the sample: a facts string read, and its trip settled
 fare facts WIDTH HEX [WIDTH HEX]  reads each facts string for its width, prints its marks,
                                   and writes it back
 fare numbers HEX [HEX]            reads the number at the front of each, and writes it back
+fare close MARK [MARK]            closes the set of these marks under the sample's terms
+fare settle MARK [MARK]           settles the trip with these facts under the sample tariff,
+                                  by both methods
 fare -                            performs the commands in its input, one to a line
 fare --help                       this text";
 
@@ -25,7 +33,7 @@ fn main(rt: LibcRuntime) -> Result<(), AnyError> {
 fn run(rt: &LibcRuntime) -> Result<(), AnyError> {
     let words: Vec<String> = env::args(rt)?.skip(1).collect(rt.alloc())?;
     match words.as_slice() {
-        [] => sample(rt),
+        [] => show_sample(rt),
         [word] if word.as_str() == "-" => performed(rt),
         all => perform(rt, all),
     }
@@ -51,14 +59,18 @@ fn perform(rt: &LibcRuntime, words: &[String]) -> Result<(), AnyError> {
     match command.as_str() {
         "facts" => facts_strings(rt, rest),
         "numbers" => number_strings(rt, rest),
+        "close" => Ok(show_closed(rt, marks_of(rt.alloc(), rest)?.as_slice())?),
+        "settle" => Ok(show_settled(rt, marks_of(rt.alloc(), rest)?.as_slice())?),
         "--help" => Ok(rt.println(HELP)?),
         _ => Err("no such command: fare --help lists them".into()),
     }
 }
 
 // The clipped trip of the sample tariff: the count is at 255, and was read.
-fn sample(rt: &LibcRuntime) -> Result<(), AnyError> {
-    show_facts(rt, 5, &[2, 0, 3])?;
+fn show_sample(rt: &LibcRuntime) -> Result<(), AnyError> {
+    show_facts(rt, sample::WIDTH, &[2, 0, 3])?;
+    show_closed(rt, &[0, 3])?;
+    show_settled(rt, &[0, 3])?;
     rt.println("fare --help says how to go on")?;
     Ok(())
 }
@@ -89,4 +101,15 @@ fn number_strings(rt: &LibcRuntime, words: &[String]) -> Result<(), AnyError> {
         show_number(rt, &hex_bytes(rt.alloc(), word.as_str())?)?;
     }
     Ok(())
+}
+
+fn marks_of(heap: Global, words: &[String]) -> Result<Vec<u16>, AnyError> {
+    let mut marks = Vec::new(heap);
+    for word in words {
+        match word.as_str().parse::<u16>() {
+            Ok(m) => marks.push(m)?,
+            Err(_) => return Err("a mark is a number up to 65,535".into()),
+        }
+    }
+    Ok(marks)
 }

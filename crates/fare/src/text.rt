@@ -19,13 +19,12 @@ pub(crate) impl fmt::Display for Hex<'_> as HexDisplay {
     }
 }
 
-// A set by its marks, in ascending order: {0, 3}.
+// The marks of a set, in ascending order: 0, 3.
 #[derive(Clone, Copy)]
-pub(crate) struct Braced<'a>(pub(crate) &'a MarkSet);
+pub(crate) struct Listed<'a>(pub(crate) &'a MarkSet);
 
-pub(crate) impl fmt::Display for Braced<'_> as BracedDisplay {
+pub(crate) impl fmt::Display for Listed<'_> as ListedDisplay {
     fn fmt<W: fmt::Write>(&self, f: &mut fmt::Formatter<W>) -> fmt::Result {
-        f.write_str("{")?;
         let mut at = 0;
         let mut gap = "";
         while let Some(m) = self.0.next(at) {
@@ -33,7 +32,18 @@ pub(crate) impl fmt::Display for Braced<'_> as BracedDisplay {
             gap = ", ";
             at = m + 1;
         }
-        f.write_str("}")
+        Ok(())
+    }
+}
+
+// A set by its marks: {0, 3}.
+#[derive(Clone, Copy)]
+pub(crate) struct Braced<'a>(pub(crate) &'a MarkSet);
+
+pub(crate) impl fmt::Display for Braced<'_> as BracedDisplay {
+    fn fmt<W: fmt::Write>(&self, f: &mut fmt::Formatter<W>) -> fmt::Result {
+        let marks = Listed(self.0);
+        write!(f, "{{{marks}}}")
     }
 }
 

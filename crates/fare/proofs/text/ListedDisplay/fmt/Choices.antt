@@ -1,7 +1,7 @@
 use Prim.Native.Nat.{_-_, _≤_}
 use denote.Text.{Utf8}
 use denote.Shadow.{shadow}
-use Rattle.fare.proofs.text.BracedDisplay.fmt.Given as given
+use Rattle.fare.proofs.text.ListedDisplay.fmt.Given as given
 
 abbrev pub Inv-loop-m : given.InvT-loop-m
 Inv-loop-m g l = shadow (Utf8 (l .gap)) × (l .at ≤ l .self .0 .now .width)
