@@ -2,7 +2,6 @@
 use crate::made::refused;
 use crate::made::set;
 use books::book::TermBook;
-use marks::refusal::Refusal;
 use marks::refusal::RefusalDebug;
 use std::test::*;
 use world_book::book::WorldBook;

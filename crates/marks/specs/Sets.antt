@@ -1,6 +1,6 @@
 -- Sets of marks. A mark is a whole number that stands for one statement about a trip; a set says of each number whether it
 -- holds it. A width says how many marks are in use: those below it.
-use mathlib.Core.Bool.{Bool, true, false, cond, _||_, _&&_, not}
+use mathlib.Core.Bool.{Bool, false, cond, _||_, _&&_, not}
 use Prim.Native.Nat.{ℕ, zero, suc, _+_, _≤_, _<_}
 use lib.Dec.{T, eqb, ltb}
 use Rattle.std.specs.declared.option.Option.{Option}

@@ -1,6 +1,5 @@
 -- Marks in a list of 64-bit words: the mark m is the bit m % 64 of the word m / 64.
 use Prim.Native.Nat.{ℕ, _/_, _%_, _^_}
-use mathlib.Core.Bool.{Bool}
 use mathlib.Core.List.{List}
 use lib.ListN.{getD}
 use lib.Dec.{eqb}

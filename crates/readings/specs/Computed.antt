@@ -1,5 +1,5 @@
--- Yields, readings and verdicts as computations, for worked examples. That they compute what the definitions say is the theorem
--- `Computed-right` (Theorems).
+-- Yields, readings and verdicts as computations, and the tests of lists that they need. Worked sheets compute them, and so do
+-- meanings that have to be executable. That they compute what the definitions say is the theorem `Computed-right` (Theorems).
 use mathlib.Core.Bool.{Bool, true, false, not, _&&_, _||_}
 use mathlib.Core.List.{List, [], _∷_, _++_, map}
 use Prim.Native.Nat.{ℕ, zero, suc}

@@ -7,7 +7,7 @@ use Rattle.marks.specs.declared.set.MarkSet.{MarkSet}
 use Rattle.marks.specs.MarkSets.{Bad-width}
 use Rattle.marks.specs.Refusals.{Gives, Test}
 use mathlib.Core.Path.{_≡_}
-use Prim.Native.Nat.{ℕ, _<_}
+use Prim.Native.Nat.{ℕ}
 use native.Mathlib.Omega.{arith}
 
 pub answered : {F U R : Type 0} → Test F (⊥ × U) R → R

@@ -1,21 +1,26 @@
 -- Rules as a pass sees them: it brings in the heads of the admitted ones.
 use mathlib.Core.List.{List, [], _∷_, map, List·Memᴰ, List·Memᴰ·head, List·Memᴰ·tail, List·Memᴰ·not-nil, List·Memᴰ·cases-cons}
-use mathlib.Core.Logic.{_⊎_, inl, inr}
+use mathlib.Core.Logic.{inl, inr}
 use mathlib.Core.Path.{_≡_, refl, sym, ap, subst, _∙_}
-use Prim.Native.Nat.{ℕ, _<_}
-use native.Mathlib.Omega.{arith}
-use lib.Dec.{T, lt→ltb, ltb→lt}
+use Prim.Native.Nat.{ℕ}
+use lib.Dec.{T, ltb→lt}
 use Rattle.std.specs.declared.option.Option.the-variants.{Some}
 use Rattle.std.specs.shelf.Lists.{All}
-use Rattle.marks.specs.Sets.{Marks, _∈_, below}
+use Rattle.marks.specs.declared.set.MarkSet.{MarkSet}
+use Rattle.marks.specs.MarkSets.{marks-of}
+use Rattle.marks.specs.Sets.{Marks, _∈_, Of-width}
 use Rattle.marks.proofs.Sets.{holds, is-true}
-use Rattle.readings.specs.Rules.{Rule, Rule-within, All-in}
+use Rattle.readings.specs.Books.{Book, Lawful}
+use Rattle.readings.specs.Rules.{Rule, Rule-within, All-in, Fit}
 use Rattle.readings.specs.Yields.{Has-heads}
 use Rattle.lines.specs.Passes.{View}
 use Rattle.lines.specs.Theorems.{Has-their-heads}
 use Rattle.lines.specs.Views.{admits, rule-view}
 use Rattle.lines.proofs.Admitting.{admission-stands}
-use Rattle.settling.specs.Growth.{Line-let-in}
+use Rattle.lines.proofs.Meaning.{lawful-lines-fit}
+use Rattle.lines.specs.declared.fare.FareLine.{FareLine}
+use Rattle.settling.specs.Calls.{Goes-with}
+use Rattle.settling.specs.Growth.{rules-of, Line-let-in}
 
 -- what holds of every element holds of each that is there
 pub all-in-list : {A : Type 0} (P : A → Type 0) (xs : List A) → All P xs → (x : A) → List·Memᴰ x xs → P x
@@ -55,3 +60,12 @@ module _ (rs : List Rule) (E D R Z : Marks) where
       has (rule-view E D R r) (r .head)
       (record { line = map-to (rule-view E D R) rs r (p .line); admitted = holds (admission-stands E D R r .1 (p .admitted)); conditions = conditions })
       refl (ltb→lt (r .head) w (within r (p .line) .head))
+
+-- facts and fare lines that go with a lawful book fit it
+pub fits : (B : Book) → Lawful B → (lines : List FareLine) (facts : MarkSet) → Goes-with B lines facts → Fit B (rules-of lines) (marks-of facts)
+fits B law lines facts goes =
+    record {
+      lawful = law;
+      within = lawful-lines-fit (B .width) lines (goes .lawful .each);
+      of-width = subst (λ (w : ℕ). Of-width w (marks-of facts)) (goes .width) (facts .inside);
+    }

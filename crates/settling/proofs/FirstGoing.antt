@@ -1,26 +1,19 @@
 -- The first method as a way that goes on until it stops.
 use mathlib.Core.List.{List}
 use mathlib.Core.Logic.{inl, inr}
-use mathlib.Core.Path.{_≡_, sym, subst}
-use Prim.Native.Nat.{ℕ, _+_, _-_, _*_, _<_, _≤_}
+use mathlib.Core.Path.{_≡_, subst}
+use Prim.Native.Nat.{ℕ, _+_, _-_, _<_}
 use native.Mathlib.Omega.{arith}
-use Rattle.std.specs.shelf.Lists.{All}
-use Rattle.marks.specs.declared.set.MarkSet.{MarkSet}
-use Rattle.marks.specs.MarkSets.{marks-of}
-use Rattle.marks.specs.Sets.{Marks, _⊆_, no-marks, below, Of-width, size}
+use Rattle.marks.specs.Sets.{Marks, _⊆_, below, Of-width, size}
 use Rattle.marks.proofs.Sets.{same-sets}
 use Rattle.marks.proofs.Sizes.{size-le}
-use Rattle.readings.specs.Books.{Book, Lawful}
-use Rattle.readings.specs.Methods.{Run, First-round, first-method}
+use Rattle.readings.specs.Books.{Book}
+use Rattle.readings.specs.Methods.{First-round, first-method}
 use Rattle.readings.specs.Rules.{Rule, Fit}
-use Rattle.readings.specs.Yields.{Full, Guarded}
+use Rattle.readings.specs.Yields.{Guarded}
 use Rattle.readings.proofs.Closing.{least-unique}
 use Rattle.readings.proofs.FirstRounds.{moves, U-width}
 use Rattle.readings.proofs.Sizes.{size-grows, same-or-more}
-use Rattle.lines.specs.declared.fare.FareLine.{FareLine}
-use Rattle.settling.specs.Calls.{Goes-with}
-use Rattle.settling.specs.Growth.{rules-of}
-use Rattle.lines.proofs.Meaning.{lawful-lines-fit}
 use Rattle.settling.proofs.Rounding.{Going-way}
 
 -- two sets of which one grew or the other shrank
@@ -52,12 +45,3 @@ module _ (B : Book) (lines : List Rule) (facts : Marks) (fit : Fit B lines facts
         falls = λ k T U T′ U′ run r differ. moved (B .width) T U T′ U′ (r .full .of-width) (U-width run) (moves fit run r .0) (moves fit run r .1) differ;
         start = let a = size-le (B .width) (below (B .width)) in omega arith;
       }
-
--- facts and fare lines that go with a lawful book fit it
-pub fits : (B : Book) → Lawful B → (lines : List FareLine) (facts : MarkSet) → Goes-with B lines facts → Fit B (rules-of lines) (marks-of facts)
-fits B law lines facts goes =
-    record {
-      lawful = law;
-      within = lawful-lines-fit (B .width) lines (goes .lawful .each);
-      of-width = subst (λ (w : ℕ). Of-width w (marks-of facts)) (goes .width) (facts .inside);
-    }

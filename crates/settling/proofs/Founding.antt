@@ -1,11 +1,11 @@
 -- The least reading with the bare book is the well-founded model.
 use mathlib.Core.List.{List}
-use mathlib.Core.Path.{_≡_, refl, sym, ap, subst, subst₂, _∙_}
+use mathlib.Core.Path.{_≡_, sym, ap, subst, subst₂, _∙_}
 use Prim.Native.Nat.{ℕ}
 use Rattle.marks.specs.declared.set.MarkSet.{MarkSet}
 use Rattle.marks.specs.MarkSets.{marks-of, Is-set}
 use Rattle.marks.specs.Sets.{Marks, outside}
-use Rattle.readings.specs.Rules.{Rule, Fit}
+use Rattle.readings.specs.Rules.{Fit}
 use Rattle.readings.specs.WellFounded.{bare, Well-founded-model}
 use Rattle.readings.specs.declared.method.Method.the-variants.{First}
 use Rattle.readings.proofs.WellFounded.{bare-lawful, reading-model}
@@ -14,9 +14,8 @@ use Rattle.settling.specs.Calls.{Lawful-fares}
 use Rattle.settling.specs.Growth.{rules-of}
 use Rattle.settling.specs.Models.{Is-model}
 use Rattle.settling.specs.Rounding.{Settles}
-use Rattle.settling.specs.declared.founded.Model.{Model}
 use Rattle.settling.specs.declared.settled.Settled.{Settled}
-use Rattle.settling.proofs.FirstGoing.{fits}
+use Rattle.settling.proofs.Fares.{fits}
 
 pub is-model : (w : ℕ) (lines : List FareLine) (facts : MarkSet) (s : Settled) (fails : MarkSet) → w ≡ facts .width → Lawful-fares (facts .width) lines
     → Settles (bare w) lines facts First s → Is-set fails (s .upper .width) (outside (s .upper .width) (marks-of (s .upper))) → Is-model lines facts (record { holds = s .lower; fails = fails })

@@ -2,16 +2,16 @@
 use mathlib.Core.Bool.{Bool, true, false, not}
 use mathlib.Core.List.{List, map, map-map}
 use mathlib.Core.Path.{_≡_, refl, sym, ap, subst, _∙_}
-use Prim.Native.Nat.{ℕ, _-_, _<_, _≤_}
+use Prim.Native.Nat.{ℕ, _-_, _<_}
 use native.Mathlib.Omega.{arith}
 use Rattle.std.proofs.shelf.Tests.{true≢false, false≢true, not-true}
 use Rattle.marks.specs.declared.set.MarkSet.{MarkSet}
 use Rattle.marks.specs.MarkSets.{marks-of}
-use Rattle.marks.specs.Sets.{Marks, _∈_, _⊆_, Of-width, size}
+use Rattle.marks.specs.Sets.{Marks, _⊆_, Of-width, size}
 use Rattle.marks.proofs.Sets.{equal-within}
 use Rattle.readings.specs.Books.{Book, Lawful, Closed}
 use Rattle.readings.specs.Rules.{Rule}
-use Rattle.readings.specs.Yields.{Has-heads, Least-closed}
+use Rattle.readings.specs.Yields.{Has-heads}
 use Rattle.marks.proofs.Sizes.{size-le}
 use Rattle.readings.proofs.Sizes.{size-grows}
 use Rattle.lines.specs.Lawful.{Lawful-fare}

@@ -2,13 +2,13 @@
 use mathlib.Core.Bool.{Bool, true, false, not}
 use mathlib.Core.List.{List}
 use mathlib.Core.Logic.{_⊎_, inl, inr}
-use mathlib.Core.Path.{_≡_, refl, sym, ap, subst, _∙_}
+use mathlib.Core.Path.{_≡_, sym, subst, _∙_}
 use Prim.Native.Nat.{ℕ}
 use Rattle.std.proofs.shelf.Tests.{false≢true, not-true, not-from-false, cases-bool}
 use Rattle.std.specs.Orderings.{Decides}
 use Rattle.marks.specs.Sets.{Marks, _∈_, _⊆_, no-marks, Of-width}
-use Rattle.marks.proofs.Sets.{holds, fails, is-true}
-use Rattle.readings.specs.Books.{Book, Clashes}
+use Rattle.marks.proofs.Sets.{fails}
+use Rattle.readings.specs.Books.{Book}
 use Rattle.readings.specs.Readings.{Sound}
 use Rattle.readings.specs.Rules.{Rule}
 use Rattle.readings.specs.Says.{Is-broken}

@@ -1,6 +1,5 @@
 -- Facts among the rules that a gate admits.
 use mathlib.Core.List.{List, [], List·Memᴰ·not-nil}
-use mathlib.Core.Logic.{_⊎_, inl, inr}
 use mathlib.Core.Path.{_≡_, sym}
 use Prim.Native.Nat.{ℕ}
 use Rattle.marks.specs.declared.set.MarkSet.{MarkSet}
@@ -9,7 +8,7 @@ use Rattle.marks.specs.Sets.{Marks, _∈_, _⊆_, _∪_, _∖_}
 use Rattle.marks.proofs.Sets.{equal-within}
 use Rattle.readings.specs.Books.{Book}
 use Rattle.readings.specs.Rules.{Rule, Counts, line, stands, fact, All-in}
-use Rattle.readings.specs.Yields.{Has-heads, Least-closed}
+use Rattle.readings.specs.Yields.{Has-heads}
 use Rattle.readings.proofs.Sets.{or-left, or-right, join-within, less-in, less-left, less-out}
 use Rattle.lines.specs.Theorems.{Is-admitted}
 use Rattle.lines.specs.declared.admission.Admission.{Admission}

@@ -4,12 +4,12 @@ use mathlib.Core.Path.{_≡_, sym, subst}
 use Prim.Native.Nat.{ℕ}
 use Rattle.marks.specs.declared.set.MarkSet.{MarkSet}
 use Rattle.marks.specs.MarkSets.{marks-of}
-use Rattle.marks.specs.Sets.{Marks, _∈_, no-marks, below, Of-width, outside, _∖_}
+use Rattle.marks.specs.Sets.{Marks, _∈_, no-marks, below, outside}
 use Rattle.marks.proofs.Sets.{equal-within}
-use Rattle.readings.specs.Books.{Book, Denied}
+use Rattle.readings.specs.Books.{Book}
 use Rattle.readings.specs.Methods.{Past-exceptions, Not-refuted}
 use Rattle.readings.specs.Rules.{Rule, Counts, Fit, All-in, None-in}
-use Rattle.readings.specs.Yields.{Least-closed, Admitted, Allowed, Full, Guarded}
+use Rattle.readings.specs.Yields.{Least-closed, Full, Guarded}
 use Rattle.readings.proofs.Closing.{least-by}
 use Rattle.readings.proofs.Sets.{less-out, not-outside}
 use Rattle.readings.proofs.Yields.{counts-within}

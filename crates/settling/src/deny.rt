@@ -1,6 +1,6 @@
 // Which heads the book denies at a set.
 ghost use mathlib.Core.Path.{_≡_};
-ghost use Prim.Native.Nat.{ℕ, _<_};
+ghost use Prim.Native.Nat.{_<_};
 ghost use Rattle.marks.specs.MarkSets.{marks-of, Is-set};
 ghost use Rattle.marks.specs.Refusals.{Gives};
 ghost use Rattle.marks.specs.Sets.{_⊆_, with-mark};
@@ -37,7 +37,11 @@ fn denies<B: TermBook>(book: &B, at: &MarkSet, m: u16) -> Result<bool, Refusal>
 }
 
 // The marks among `tried` that the book denies at the set: one closing each.
-fn denied_among<B: TermBook>(book: &B, at: &MarkSet, tried: &MarkSet) -> Result<MarkSet, Refusal>
+pub(crate) fn denied_among<B: TermBook>(
+    book: &B,
+    at: &MarkSet,
+    tried: &MarkSet,
+) -> Result<MarkSet, Refusal>
     requires width { ⌜ now at .width ≡ B·TermBook .book (now book) .width ⌝ }
     requires tried { ⌜ now tried .width ≡ B·TermBook .book (now book) .width ⌝ }
     ensures { λ r. ⌜ Gives r (λ d. Is-set d (B·TermBook .book (now (book .entry)) .width) (denied-below (B·TermBook .book (now (book .entry))) (marks-of (now (at .entry))) (marks-of (now (tried .entry))) (B·TermBook .book (now (book .entry)) .width))) ⌝ }

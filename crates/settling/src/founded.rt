@@ -1,5 +1,4 @@
 // Rules without a book: the well-founded model.
-ghost use mathlib.Core.Path.{_≡_};
 ghost use Rattle.marks.specs.Refusals.{Refuses, Gives, Test};
 ghost use Rattle.settling.specs.Calls.{Lawful-fares};
 ghost use Rattle.settling.specs.Models.{Is-model};

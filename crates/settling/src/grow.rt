@@ -1,8 +1,6 @@
 // Growing a set to the least closed set around it that has the heads of the admitted fare lines.
 ghost use mathlib.Core.Path.{_≡_};
-ghost use Rattle.marks.specs.MarkSets.{marks-of};
 ghost use Rattle.marks.specs.Refusals.{Gives};
-ghost use Rattle.marks.specs.Sets.{no-marks};
 ghost use Rattle.settling.specs.Calls.{Lawful-fares, Goes-with};
 ghost use Rattle.settling.specs.Growth.{Let-in-by, Line-let-in-by, Grown, Turned};
 use books::book::TermBook;

@@ -7,5 +7,5 @@ pub mod second;
 pub mod settle;
 pub mod settled;
 pub mod sound;
-pub mod verdict;
+mod verdict;
 pub mod yields;

@@ -1,5 +1,4 @@
 // Settling whole: by either method, with the verdict.
-ghost use mathlib.Core.Path.{_≡_};
 ghost use Rattle.marks.specs.Refusals.{Refuses, Gives, Test};
 ghost use Rattle.settling.specs.Calls.{Unlike, Lawful-fares, Goes-with};
 ghost use Rattle.settling.specs.Judging.{Judges};

@@ -1,19 +1,15 @@
 // The verdict of facts with fare lines and a book, by their least reading.
-ghost use mathlib.Core.Logic.{_⊎_};
 ghost use mathlib.Core.Path.{_≡_};
 ghost use Rattle.marks.specs.MarkSets.{marks-of};
-ghost use Rattle.marks.specs.Refusals.{Refuses, Gives, Test};
+ghost use Rattle.marks.specs.Refusals.{Gives};
 ghost use Rattle.readings.specs.Says.{the-verdict, Is-broken};
 ghost use Rattle.std.specs.Orderings.{Decides};
-ghost use Rattle.settling.specs.Calls.{Unlike, Lawful-fares, Goes-with};
+ghost use Rattle.settling.specs.Calls.{Goes-with};
 ghost use Rattle.settling.specs.Growth.{rules-of};
-use crate::yields::MOST_FARES;
 use crate::yields::full_of;
 use crate::yields::guarded_of;
 use books::book::TermBook;
-use lines::check::check_records;
 use lines::fare::FareLine;
-use lines::fare::FareLineRecord;
 use marks::refusal::Refusal;
 use marks::set::MarkSet;
 use readings::verdict::Verdict;
@@ -63,24 +59,4 @@ pub(crate) fn judge<B: TermBook>(
     } else {
         Ok(Verdict::Suspect)
     }
-}
-
-// What the verdict says of facts whose reading is T, U. For the least reading, there is exactly one right answer.
-pub fn verdict<B: TermBook>(
-    lines: &[FareLine],
-    book: &B,
-    facts: &MarkSet,
-    lower: &MarkSet,
-    upper: &MarkSet,
-) -> Result<Verdict, Refusal>
-    ensures { λ r. ⌜ Test (Unlike (B·TermBook .book (now (book .entry))) (now (facts .entry)) ⊎ (Unlike (B·TermBook .book (now (book .entry))) (now (lower .entry)) ⊎ Unlike (B·TermBook .book (now (book .entry))) (now (upper .entry)))) (Refuses r 7) (Test (Lawful-fares (B·TermBook .book (now (book .entry)) .width) (now (lines .entry)) → ⊥) (Refuses r 8) (Gives r (λ v. the-verdict v .says (B·TermBook .book (now (book .entry))) (rules-of (now (lines .entry))) (marks-of (now (facts .entry))) (marks-of (now (lower .entry))) (marks-of (now (upper .entry)))))) ⌝ }
-{
-    if facts.width() != book.width()
-        || lower.width() != book.width()
-        || upper.width() != book.width()
-    {
-        return Err(Refusal::Width);
-    }
-    check_records(lines, MOST_FARES, book.width())?;
-    judge(lines, book, facts, lower, upper)
 }

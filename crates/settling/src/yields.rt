@@ -1,8 +1,8 @@
 // The full and the guarded yield of a set.
 ghost use mathlib.Core.Logic.{_⊎_};
 ghost use mathlib.Core.Path.{_≡_};
-ghost use Rattle.marks.specs.MarkSets.{marks-of};
 ghost use Rattle.marks.specs.Refusals.{Refuses, Gives, Test};
+ghost use Rattle.settling.specs.Growth.{Denies-heads};
 ghost use Rattle.settling.specs.Calls.{Unlike, Lawful-fares, Goes-with, Full-yield, Guarded-yield};
 use crate::deny::denied_heads;
 use crate::grow::grow_with_facts;
@@ -36,6 +36,30 @@ pub(crate) fn full_of<B: TermBook>(
     Ok(set)
 }
 
+// What grows where these heads do not count.
+fn grown_without<B: TermBook>(
+    lines: &[FareLine],
+    book: &B,
+    facts: &MarkSet,
+    at: &MarkSet,
+    denied: MarkSet,
+) -> Result<MarkSet, Refusal>
+    requires goes { ⌜ Goes-with (B·TermBook .book (now book)) (now lines) (now facts) ⌝ }
+    requires width { ⌜ now at .width ≡ B·TermBook .book (now book) .width ⌝ }
+    requires denied { ⌜ Denies-heads (B·TermBook .book (now book)) (now lines) (now facts) (now at) denied ⌝ }
+    ensures { λ r. ⌜ Gives r (Guarded-yield (B·TermBook .book (now (book .entry))) (now (lines .entry)) (now (facts .entry)) (now (at .entry))) ⌝ }
+{
+    let none = MarkSet::empty(book.width())?;
+    let gate = Admission {
+        exceptions: *at,
+        denied,
+        refuted: none,
+    };
+    let mut set = none;
+    grow_with_facts(lines, book, facts, &gate, &mut set)?;
+    Ok(set)
+}
+
 // The guarded yield: besides, rules whose head the book denies at the given set do not count.
 pub(crate) fn guarded_of<B: TermBook>(
     lines: &[FareLine],
@@ -47,15 +71,8 @@ pub(crate) fn guarded_of<B: TermBook>(
     requires width { ⌜ now at .width ≡ B·TermBook .book (now book) .width ⌝ }
     ensures { λ r. ⌜ Gives r (Guarded-yield (B·TermBook .book (now (book .entry))) (now (lines .entry)) (now (facts .entry)) (now (at .entry))) ⌝ }
 {
-    let none = MarkSet::empty(book.width())?;
-    let gate = Admission {
-        exceptions: *at,
-        denied: denied_heads(lines, book, facts, at)?,
-        refuted: none,
-    };
-    let mut set = none;
-    grow_with_facts(lines, book, facts, &gate, &mut set)?;
-    Ok(set)
+    let denied = denied_heads(lines, book, facts, at)?;
+    grown_without(lines, book, facts, at, denied)
 }
 
 // The most fare lines that a call takes.

@@ -1,5 +1,4 @@
 use Prim.Native.Nat.{_-_, _≤_}
-use mathlib.Core.Path.{_≡_}
 use Rattle.marks.specs.MarkSets.{marks-of, Is-set}
 use Rattle.settling.specs.Growth.{denied-below}
 use Rattle.settling.proofs.deny.denied_among.Given as given

@@ -1,10 +1,9 @@
-use mathlib.Core.Path.{_≡_, sym, ap, ap₂, subst, _∙_}
+use mathlib.Core.Path.{_≡_, sym, ap, subst, _∙_}
 use Prim.Native.Nat.{ℕ}
-use Rattle.marks.specs.declared.set.MarkSet.{MarkSet}
 use Rattle.marks.specs.MarkSets.{marks-of, Is-set}
 use Rattle.marks.specs.Sets.{Marks, below, _∖_}
 use Rattle.marks.proofs.Sets.{holds, fails}
-use Rattle.settling.specs.Growth.{denied-below, Denies-heads}
+use Rattle.settling.specs.Growth.{denied-below}
 use Rattle.settling.proofs.Answering.{answered, gives-map, passed, set-width}
 use Rattle.settling.proofs.Denying.{denies-all, denies-tried}
 use Rattle.settling.proofs.deny.denied_heads.Needs as need

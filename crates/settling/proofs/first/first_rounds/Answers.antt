@@ -6,7 +6,8 @@ use Rattle.readings.specs.declared.method.Method.the-variants.{First}
 use Rattle.settling.specs.Growth.{rules-of}
 use Rattle.settling.specs.Rounding.{Rounded}
 use Rattle.settling.proofs.Answering.{given}
-use Rattle.settling.proofs.FirstGoing.{first-way, fits}
+use Rattle.settling.proofs.Fares.{fits}
+use Rattle.settling.proofs.FirstGoing.{first-way}
 use Rattle.settling.proofs.Rounding.{going-start, going-less, going-on, going-end}
 use Rattle.settling.proofs.Settles.{settles-by}
 use Rattle.settling.proofs.first.first_rounds.Needs as need

@@ -1,6 +1,6 @@
 use Prim.Native.Nat.{_+_, _-_}
 use Rattle.marks.specs.MarkSets.{marks-of}
-use Rattle.marks.specs.Sets.{Marks, size}
+use Rattle.marks.specs.Sets.{size}
 use Rattle.readings.specs.Methods.{first-method}
 use Rattle.settling.specs.Growth.{rules-of}
 use Rattle.settling.proofs.Rounding.{Going}

@@ -1,4 +1,3 @@
-use mathlib.Core.Bool.{Bool, true, false}
 use mathlib.Core.Path.{subst}
 use Rattle.settling.specs.Growth.{Line-let-in-by, Turned}
 use Rattle.settling.proofs.Answering.{answered}

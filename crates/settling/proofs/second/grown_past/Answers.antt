@@ -4,7 +4,7 @@ use Rattle.marks.specs.MarkSets.{marks-of}
 use Rattle.marks.specs.Sets.{outside}
 use Rattle.settling.specs.Growth.{rules-of}
 use Rattle.settling.proofs.Answering.{given}
-use Rattle.settling.proofs.FirstGoing.{fits}
+use Rattle.settling.proofs.Fares.{fits}
 use Rattle.settling.proofs.Yielding.{grown-past-F}
 use Rattle.settling.proofs.second.grown_past.Needs as need
 

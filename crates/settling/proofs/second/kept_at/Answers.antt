@@ -1,4 +1,3 @@
-use Rattle.marks.specs.MarkSets.{marks-of}
 use Rattle.settling.proofs.Answering.{given}
 use Rattle.settling.proofs.Yielding.{kept-grown}
 use Rattle.settling.proofs.second.kept_at.Needs as need

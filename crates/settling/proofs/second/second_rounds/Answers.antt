@@ -7,7 +7,7 @@ use Rattle.readings.specs.declared.method.Method.the-variants.{Second}
 use Rattle.settling.specs.Growth.{rules-of}
 use Rattle.settling.specs.Rounding.{Rounded}
 use Rattle.settling.proofs.Answering.{given}
-use Rattle.settling.proofs.FirstGoing.{fits}
+use Rattle.settling.proofs.Fares.{fits}
 use Rattle.settling.proofs.SecondGoing.{second-way}
 use Rattle.settling.proofs.Rounding.{going-start, going-less, going-on, going-end}
 use Rattle.settling.proofs.Settles.{settles-by}

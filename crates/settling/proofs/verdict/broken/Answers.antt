@@ -1,4 +1,3 @@
-use mathlib.Core.Bool.{Bool}
 use mathlib.Core.Logic.{inl}
 use mathlib.Core.Path.{refl, sym, ap, subst, _∙_}
 use Prim.Native.Nat.{ℕ}
