@@ -1,4 +1,6 @@
 // Books on small examples and at their limits: nothing but tests.
+#![tactic(auto)]
+
 #[cfg(test)]
 mod bars;
 #[cfg(test)]

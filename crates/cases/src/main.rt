@@ -1,4 +1,6 @@
 // Puts cases, one to a line of the input, through the public calls of the module and prints a line for each.
+#![tactic(auto)]
+
 mod books;
 mod bytes;
 mod calls;

@@ -2,6 +2,8 @@
 //
 // This is all that a kind owes: a meaning (specs/Always.antt), that it keeps the laws of books (proofs/AlwaysTerms/TheImpl), its
 // width, and closing. What is proved of every book then holds of it too; a barred book can stand on it, for instance.
+#![tactic(auto)]
+
 ghost use Rattle.example_book.specs.Always.{always};
 ghost use Rattle.marks.specs.MarkSets.{marks_of};
 ghost use Rattle.example_book.specs.Laws.{always_lawful};

@@ -1,4 +1,6 @@
 // The program for fitters and tariff writers: it shows what the module makes of the bytes it is given.
+#![tactic(auto)]
+
 mod facts;
 mod hex;
 mod numbers;

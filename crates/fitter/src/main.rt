@@ -1,4 +1,6 @@
 // The program for fitters and tariff writers: it reads, checks and copies tariffs, and settles trips under them.
+#![tactic(auto)]
+
 mod commands;
 mod facts;
 mod failure;

@@ -1,3 +1,5 @@
 // The host call on small examples: nothing but tests.
+#![tactic(auto)]
+
 #[cfg(test)]
 mod cases;

@@ -1,4 +1,6 @@
 // The line book: a term book that stands on term lines.
+#![tactic(auto)]
+
 pub mod book;
 mod grow;
 mod keep;

@@ -1,4 +1,6 @@
 // Records on small examples and at their limits: nothing but tests.
+#![tactic(auto)]
+
 #[cfg(test)]
 mod cases;
 #[cfg(test)]

@@ -1,5 +1,7 @@
 // The records of a tariff in the caller's memory: fare lines, term lines and bars. When they are lawful, when two of them are
 // equal, and the one pass that brings in the lines whose conditions stand.
+#![tactic(auto)]
+
 pub mod admission;
 pub mod bar;
 pub mod check;

@@ -1,4 +1,6 @@
 // Sets of marks, and the refusals of the whole module.
+#![tactic(auto)]
+
 pub mod overlap;
 pub mod refusal;
 pub mod set;

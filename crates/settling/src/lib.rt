@@ -1,4 +1,6 @@
 // Settling: yields, both methods, the verdict and the test of sound readings, for any book; the well-founded model without one.
+#![tactic(auto)]
+
 mod deny;
 pub mod first;
 pub mod founded;

@@ -1,4 +1,6 @@
 // Numbers and facts strings in the caller's bytes: read, tested and written.
+#![tactic(auto)]
+
 pub mod cursor;
 pub mod facts;
 pub mod fault;

@@ -1,4 +1,6 @@
 // Reads tariff files: checks the bytes where they lie, and fills the caller's records.
+#![tactic(auto)]
+
 mod file;
 mod line;
 mod list;

@@ -1,4 +1,6 @@
 // Writes a tariff into the caller's bytes: its width, fare lines and term lines as a file.
+#![tactic(auto)]
+
 mod encode;
 pub mod file;
 mod lines;

@@ -3,9 +3,9 @@ use Rattle.std.proofs.lemmas.Result.{err_from_is_err_and}
 use Rattle.tariff.specs.Facts.{FactsFault}
 use Rattle.host.proofs.tests.facts_of.Goals as goal
 
-pub returns-in-err-read-facts : goal.returns-in-err-read-facts
-returns-in-err-read-facts c =
-    let p = err_from_is_err_and c.from-residual.result c.from-residual.ensures.1 in
-    let read = c.in-err-read-facts.ensures.says in
-    let wide : c.in-Ok.set.width ≡ c.args.width = elim c.in-Ok.ensures [ inl x ↦ absurd x.1 | inr x ↦ x.1.width ] in
-    rw (p.1, p.2) (subst (λ w. FactsFault w c.args.facts.now c.in-err-read-facts.field-0.0) wide read.1)
+pub returns-in_err-read_facts : goal.returns-in_err-read_facts
+returns-in_err-read_facts c =
+    let p = err_from_is_err_and c.from_residual.result c.from_residual.ensures.1 in
+    let read = c.in_err-read_facts.ensures.says in
+    let wide : c.in_ok.set.width ≡ c.args.width = elim c.in_ok.ensures [ inl x ↦ absurd x.1 | inr x ↦ x.1.width ] in
+    rw (p.1, p.2) (subst (λ w. FactsFault w c.args.facts.now c.in_err-read_facts.field-0.0) wide read.1)

@@ -21,9 +21,9 @@ returns c =
     let told = c.grow-clash.ensures in
     let mid = c.grow-clash.new.set in
     let is : all_where c.grow-clash.result mid.width (marks_of mid) ≡ all_where (some_stands (denials used) X) w X = cc in
-    subst (λ (ls : List TermLine). ClosedTo (line_book w ls) s c.give-all.new.set c.grow-clash.result)
+    subst (λ (ls : List TermLine). ClosedTo (line_book w ls) s c.give_all.new.set c.grow-clash.result)
     (ap (λ (n : ℕ). take n lines) (sub-zero c.args.count))
     (record {
-      set = record { width = c.give-all.ensures.width ∙ told.grown.width; marks = c.give-all.ensures.marks ∙ is };
+      set = record { width = c.give_all.ensures.width ∙ told.grown.width; marks = c.give_all.ensures.marks ∙ is };
       clash = told.denied;
     })

@@ -8,13 +8,13 @@ use Rattle.lines.proofs.check.all_lawful.Goals as goal
 pub loop-record-init : goal.loop-record-init
 loop-record-init g c = tt
 
-pub returns-then-not-is-lawful : goal.returns-then-not-is-lawful
-returns-then-not-is-lawful g c =
+pub returns-then-not-is_lawful : goal.returns-then-not-is_lawful
+returns-then-not-is_lawful g c =
     let P = g.R.Record.lawful c.args.width in
     let r = c.record-item.result in (
       (λ e. absurd (false≢true e)),
       λ all.
-          sym c.if-not-is-lawful.true ∙ c.is-lawful.ensures.1
+          sym c.if-not-is_lawful.true ∙ c.is_lawful.ensures.1
           (subst P (sym c.record-item.is) (All-get_or P c.args.records.now c.loop-record.record-index r c.loop-record-test.true all)),
     )
 
@@ -23,7 +23,7 @@ loop-record-preserved g c =
     let P = g.R.Record.lawful c.args.width in
     let r = c.record-item.result in
     All-more P c.args.records.now c.loop-record.record-index r c.loop-record-test.true c.loop-record.invariant
-    (subst P c.record-item.is (c.is-lawful.ensures.0 c.if-not-is-lawful.false))
+    (subst P c.record-item.is (c.is_lawful.ensures.0 c.if-not-is_lawful.false))
 
 pub returns : goal.returns
 returns g c = (

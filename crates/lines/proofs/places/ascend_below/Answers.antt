@@ -2,7 +2,7 @@ use Rattle.std.proofs.Common.{◌<◌, get_or, refl, arith}
 use Rattle.std.proofs.lemmas.Bool.{false≢true}
 use Rattle.lines.proofs.Ascents.{left_here, left_more, left_all, ascending_ascends, ascends_ascending}
 use Rattle.lines.proofs.places.ascend_below.Goals as goal
-use Rattle.lines.proofs.places.ascend_below.Goals.{then-mark-width-via-then-mark-width, then-mark-width-via-else-mark-width+then-not-is-above}
+use Rattle.lines.proofs.places.ascend_below.Goals.{then-mark-width-via-then-mark-width, then-mark-width-via-else-mark-width+then-not-is_above}
 
 pub returns-then-mark-width : goal.returns-then-mark-width
 returns-then-mark-width c = (
@@ -14,14 +14,14 @@ returns-then-mark-width c = (
       let here = left_here w c.loop-m.last i ms c.loop-m-test.true c.loop-m.invariant (ascends_ascending w ms both.0 both.1) in
       elim c.then-mark-width.branch [
         | then-mark-width-via-then-mark-width x ↦ let low : get_or ms i 0 < w = here.0 in absurd (omega arith)
-        | then-mark-width-via-else-mark-width+then-not-is-above x ↦ x.if-not-is-above.ensures.1 here.1
+        | then-mark-width-via-else-mark-width+then-not-is_above x ↦ x.if-not-is_above.ensures.1 here.1
       ],
 )
 
 pub loop-m-preserved : goal.loop-m-preserved
 loop-m-preserved c =
     left_more c.args.width c.loop-m.last c.loop-m.m-index c.args.marks.now c.loop-m-test.true c.loop-m.invariant
-    c.if-mark-width.false (c.if-not-is-above.ensures.0 refl)
+    c.if-mark-width.false (c.if-not-is_above.ensures.0 refl)
 
 pub returns : goal.returns
 returns c = (

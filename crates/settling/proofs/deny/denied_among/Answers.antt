@@ -10,7 +10,7 @@ use Rattle.settling.proofs.deny.denied_among.Goals.{then-branch+in-ok-insert, el
 
 pub loop-m-init : goal.loop-m-init
 loop-m-init g c =
-    let new = given c.in-ok-denied.ensures in (
+    let new = given c.in_ok-denied.ensures in (
       omega arith,
       record { width = new.width ∙ c.width.ensures; marks = new.marks ∙ denied_none (g.B.TermBook.book c.args.book.now) (marks_of c.args.at.now) (marks_of c.args.tried.now) },
     )
@@ -20,15 +20,15 @@ loop-m-preserved g c =
     let B = g.B.TermBook.book c.args.book.now in
     let S = marks_of c.args.at.now in
     let C = marks_of c.args.tried.now in
-    let m = c.in-Some.m in
-    let low = c.in-Some.ensures.next in
-    let within = c.in-Some.ensures.within in
+    let m = c.in_some.m in
+    let low = c.in_some.ensures.next in
+    let within = c.in_some.ensures.within in
     let before = c.loop-m.invariant.1 in
-    let is = c.in-ok-denies.ensures in (
+    let is = c.in_ok-denies.ensures in (
       omega arith,
       elim c.if-branch.branch [
         | then-branch+in-ok-insert w ↦
-            let new = answered w.in-ok-insert.ensures in
+            let new = answered w.in_ok-insert.ensures in
             subst (λ (s : MarkSet). IsSet s B.width (denied_below B S C (m + 1))) (sym w.denied-is)
             (record { width = new.width ∙ before.width; marks = new.marks ∙ denied_step B S C c.loop-m.from m low (marks_of c.loop-m.denied) before.marks (sym w.if-branch.true ∙ is) })
         | else-branch w ↦
@@ -47,5 +47,5 @@ returns g c =
       marks =
           last.marks
           ∙ denied_all B (marks_of c.args.at.now) (marks_of tried) c.loop-m.from B.width
-          (subst (λ (w : ℕ). OfWidth w (marks_of tried)) c.requires.tried tried.inside) c.in-default.ensures.next;
+          (subst (λ (w : ℕ). OfWidth w (marks_of tried)) c.requires.tried tried.inside) c.in_default.ensures.next;
     }

@@ -13,7 +13,7 @@ returns-then-branch g c =
     let B = g.B.TermBook.book b in
     let at = c.args.at.now in
     let w = c.width.ensures in
-    let closed = answered c.in-ok-close.ensures in
+    let closed = answered c.in_ok-close.ensures in
     gives_map c.full.result
     (λ D is.
     denies_all B (g.met.B.TermBook.lawful b) c.args.lines.now c.args.facts.now at c.requires.goes c.requires.width D
@@ -25,14 +25,14 @@ returns g c =
     let b = c.args.book.now in
     let B = g.B.TermBook.book b in
     let at = c.args.at.now in
-    let closed = answered c.in-ok-close.ensures in
-    let heads = c.all-heads-tried.ensures in
-    let tried = answered c.in-ok-subtract.ensures in
-    let all = marks_of c.all-heads-tried.result in
+    let closed = answered c.in_ok-close.ensures in
+    let heads = c.all_heads-tried.ensures in
+    let tried = answered c.in_ok-subtract.ensures in
+    let all = marks_of c.all_heads-tried.result in
     let e : marks_of c.subtract.new.self ≡ all ∖ B.closure (marks_of at) = tried.marks ∙ ap (λ (X : Marks). all ∖ X) closed.set.marks in
-    gives_map c.denied-among.result
+    gives_map c.denied_among.result
     (λ D is.
     denies_tried B (g.met.B.TermBook.lawful b) c.args.lines.now c.args.facts.now at c.requires.goes c.requires.width all D heads.facts heads.heads
     (fails (sym closed.clash ∙ c.if-branch.false))
     (subst (λ (X : Marks). IsSet D B.width (denied_below B (marks_of at) X B.width)) e is))
-    c.denied-among.ensures
+    c.denied_among.ensures

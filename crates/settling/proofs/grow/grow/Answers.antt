@@ -8,26 +8,26 @@ pub loop-init : goal.loop-init
 loop-init g c =
     let b = c.args.book.now in
     growing_start (g.B.TermBook.book b) (g.met.B.TermBook.lawful b) (LineLetInBy c.args.lines.now c.args.gate.now) c.args.set.now c.close.new.set
-    c.in-ok-close.field-0 c.requires.width (answered c.in-ok-close.ensures)
+    c.in_ok-close.field-0 c.requires.width (answered c.in_ok-close.ensures)
 
 pub loop-smaller : goal.loop-smaller
 loop-smaller g c =
     let B = g.B.TermBook.book c.args.book.now in
     let P = LineLetInBy c.args.lines.now c.args.gate.now in
     room_falls B P c.loop.set c.turn.new.set
-    (subst (Turned B P c.loop.set c.turn.new.set) c.if-branch.true c.in-ok-turn.ensures)
+    (subst (Turned B P c.loop.set c.turn.new.set) c.if-branch.true c.in_ok-turn.ensures)
 
 pub loop-preserved : goal.loop-preserved
 loop-preserved g c =
     let b = c.args.book.now in
     growing_on (g.B.TermBook.book b) (g.met.B.TermBook.lawful b) (LineLetInBy c.args.lines.now c.args.gate.now) c.close.new.set c.loop.set
-    c.turn.new.set c.in-ok-turn.field-0 c.loop.invariant c.in-ok-turn.ensures
+    c.turn.new.set c.in_ok-turn.field-0 c.loop.invariant c.in_ok-turn.ensures
 
 pub returns : goal.returns
 returns g c =
     let b = c.args.book.now in
     let B = g.B.TermBook.book b in
     let P = LineLetInBy c.args.lines.now c.args.gate.now in
-    growing_end B (g.met.B.TermBook.lawful b) P c.args.set.now c.close.new.set c.loop.set c.turn.new.set c.in-ok-close.field-0 c.requires.width
-    (answered c.in-ok-close.ensures) c.loop.invariant
-    (subst (Turned B P c.loop.set c.turn.new.set) c.if-branch.false c.in-ok-turn.ensures)
+    growing_end B (g.met.B.TermBook.lawful b) P c.args.set.now c.close.new.set c.loop.set c.turn.new.set c.in_ok-close.field-0 c.requires.width
+    (answered c.in_ok-close.ensures) c.loop.invariant
+    (subst (Turned B P c.loop.set c.turn.new.set) c.if-branch.false c.in_ok-turn.ensures)

@@ -13,4 +13,4 @@ pub returns : goal.returns
 returns g c =
     let b = c.args.book.now in
     turned_some (g.B.TermBook.book b) (g.met.B.TermBook.lawful b) c.args.lines.now c.args.gate.now c.requires.lawful c.args.set.now c.pass.new.set c.pass.result c.requires.width c.pass.ensures
-    c.close.new.set c.in-ok-close.field-0 (not-false c.pass.result.added c.if-not-pass.false) (answered c.in-ok-close.ensures)
+    c.close.new.set c.in_ok-close.field-0 (not-false c.pass.result.added c.if-not-pass.false) (answered c.in_ok-close.ensures)

@@ -12,9 +12,9 @@ returns g c =
     let b = c.args.book.now in
     let B = g.B.TermBook.book b in
     let F = marks_of c.args.refuted.now in
-    let none = (given c.in-ok-none.ensures).marks in
-    let rest = c.in-ok-complement.ensures in
-    let grown = c.in-ok-grow-with-facts.ensures in
+    let none = (given c.in_ok-none.ensures).marks in
+    let rest = c.in_ok-complement.ensures in
+    let grown = c.in_ok-grow_with_facts.ensures in
     record {
       width = grown.width;
       grown =

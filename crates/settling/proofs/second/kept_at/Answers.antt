@@ -4,10 +4,10 @@ use Rattle.settling.proofs.second.kept_at.Goals as goal
 
 pub returns : goal.returns
 returns g c =
-    let grown = c.in-ok-grow-with-facts.ensures in
+    let grown = c.in_ok-grow_with_facts.ensures in
     record {
       width = grown.width;
       kept =
-          kept_grown (g.B.TermBook.book c.args.book.now) c.args.lines.now c.args.facts.now c.args.lower.now _ c.in-ok-denied-heads.ensures _ _ _
-          (given c.in-ok-set.ensures).marks grown.least;
+          kept_grown (g.B.TermBook.book c.args.book.now) c.args.lines.now c.args.facts.now c.args.lower.now _ c.in_ok-denied_heads.ensures _ _ _
+          (given c.in_ok-set.ensures).marks grown.least;
     }

@@ -7,8 +7,8 @@ use Rattle.settling.proofs.sound.sound.Goals as goal
 
 pub returns : goal.returns
 returns g c =
-    let full = c.in-ok-full-of.ensures in
-    gives_map c.same-marks.result
-    (λ b. sound_by (g.B.TermBook.book c.args.book.now) (rules_of c.args.lines.now) (marks_of c.args.facts.now) (marks_of c.args.set.now) (marks_of c.in-ok-full-of.field-0) b
-    (sym c.in-ok-clashes.ensures ∙ c.if-branch.false) full.yield)
-    (passed (λ differ. differ (full.width ∙ sym c.requires.width)) c.same-marks.ensures)
+    let full = c.in_ok-full_of.ensures in
+    gives_map c.same_marks.result
+    (λ b. sound_by (g.B.TermBook.book c.args.book.now) (rules_of c.args.lines.now) (marks_of c.args.facts.now) (marks_of c.args.set.now) (marks_of c.in_ok-full_of.field-0) b
+    (sym c.in_ok-clashes.ensures ∙ c.if-branch.false) full.yield)
+    (passed (λ differ. differ (full.width ∙ sym c.requires.width)) c.same_marks.ensures)

@@ -9,14 +9,14 @@ use Rattle.settling.proofs.verdict.broken.Goals as goal
 pub returns-then-branch : goal.returns-then-branch
 returns-then-branch g c =
     let B = g.B.TermBook.book c.args.book.now in
-    let none = (given c.in-ok-none.ensures).marks in
-    ((λ _. inl (holds (ap B.clash (sym none) ∙ sym c.in-ok-clashes.ensures ∙ c.if-branch.true))), λ _. refl)
+    let none = (given c.in_ok-none.ensures).marks in
+    ((λ _. inl (holds (ap B.clash (sym none) ∙ sym c.in_ok-clashes.ensures ∙ c.if-branch.true))), λ _. refl)
 
 pub returns : goal.returns
 returns g c =
     let B = g.B.TermBook.book c.args.book.now in
     let lower = c.args.lower.now in
-    let none = (given c.in-ok-none.ensures).marks in
-    broken_by B (marks_of lower) (marks_of c.args.upper.now) c.in-ok-is-subset.field-0
+    let none = (given c.in_ok-none.ensures).marks in
+    broken_by B (marks_of lower) (marks_of c.args.upper.now) c.in_ok-is_subset.field-0
     (subst (λ (w : ℕ). OfWidth w (marks_of lower)) c.requires.lower lower.inside)
-    (ap B.clash (sym none) ∙ sym c.in-ok-clashes.ensures ∙ c.if-branch.false) (given c.in-ok-is-subset.ensures)
+    (ap B.clash (sym none) ∙ sym c.in_ok-clashes.ensures ∙ c.if-branch.false) (given c.in_ok-is_subset.ensures)

@@ -9,5 +9,5 @@ use Rattle.tariff.proofs.facts.put_facts.Goals as goal
 pub returns : goal.returns
 returns c =
     let s = c.args.facts.now in
-    let count = subst (λ n. Written c.args.out.now 0 (encode n) c.put-number-place.new.out c.put-number-place.result) c.requires.count c.put-number-place.ensures in
-    written_more c.args.out.now 0 _ (mark_bytes s.width (marks_of s)) (omega arith) count c.put-marks.ensures
+    let count = subst (λ n. Written c.args.out.now 0 (encode n) c.put_number-place.new.out c.put_number-place.result) c.requires.count c.put_number-place.ensures in
+    written_more c.args.out.now 0 _ (mark_bytes s.width (marks_of s)) (omega arith) count c.put_marks.ensures

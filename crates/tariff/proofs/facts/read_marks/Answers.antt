@@ -20,11 +20,11 @@ loop-init c =
       ap (λ n. mapped (adding (marks_of c.args.set.now)) (marks_at c.args.set.now.width (text c.args.reader.now) n 0 c.args.reader.now.place)) (sym all),
     )
 
-pub returns-in-err-m : goal.returns-in-err-m
-returns-in-err-m c =
+pub returns-in_err-m : goal.returns-in_err-m
+returns-in_err-m c =
     let inv = c.loop.invariant in
-    let here = c.in-err-m.ensures in
-    let out = err_from_is_err_and c.from-residual.result c.from-residual.ensures.1 in
+    let here = c.in_err-m.ensures in
+    let out = err_from_is_err_and c.from_residual.result c.from_residual.ensures.1 in
     let found = here.value ∙ ap₂ (λ (w : ℕ) (t : List ℕ). mark w t c.loop.least c.loop.reader.place) inv.1 inv.0 in
     rw (out.1, out.2) (record {
       same = here.same ∙ inv.0;
@@ -35,14 +35,14 @@ returns-in-err-m c =
 pub loop-preserved : goal.loop-preserved
 loop-preserved c =
     let inv = c.loop.invariant in
-    let here = c.in-ok-m.ensures in
+    let here = c.in_ok-m.ensures in
     let set = here.set.1 in
     let found = here.value ∙ ap₂ (λ (w : ℕ) (t : List ℕ). mark w t c.loop.least c.loop.reader.place) inv.1 inv.0 in (
       here.same ∙ inv.0,
       set.width ∙ inv.1,
       inv.2
-          ∙ many_more (adding (marks_of c.loop.set)) (mark c.args.set.now.width (text c.args.reader.now)) (λ m _. m + 1) c.args.count c.loop.counter c.loop.least c.loop.reader.place c.in-ok-m.m c.read-mark.new.reader.place c.loop-test.true found
-          ∙ ap (λ S. mapped (adding S) (marks_at c.args.set.now.width (text c.args.reader.now) (c.args.count - (c.loop.counter + 1)) (c.in-ok-m.m + 1) c.read-mark.new.reader.place)) (sym set.marks),
+          ∙ many_more (adding (marks_of c.loop.set)) (mark c.args.set.now.width (text c.args.reader.now)) (λ m _. m + 1) c.args.count c.loop.counter c.loop.least c.loop.reader.place c.in_ok-m.m c.read_mark.new.reader.place c.loop-test.true found
+          ∙ ap (λ S. mapped (adding S) (marks_at c.args.set.now.width (text c.args.reader.now) (c.args.count - (c.loop.counter + 1)) (c.in_ok-m.m + 1) c.read_mark.new.reader.place)) (sym set.marks),
     )
 
 pub returns : goal.returns

@@ -23,14 +23,14 @@ checked fares terms bs h p q e opening first second whole =
 
 pub returns : goal.returns
 returns c =
-    let h = c.in-ok-counts.counts in
-    let p : ℕ = c.read-opening.new.reader.place in
+    let h = c.in_ok-counts.counts in
+    let p : ℕ = c.read_opening.new.reader.place in
     let q : ℕ = c.skim.new.reader.place in
     let e : ℕ = c.skim-2.new.reader.place in
     let new = c.new-reader.ensures in
-    let opening = c.in-ok-counts.ensures in
-    let first = c.in-ok-skim.ensures in
-    let second = c.in-ok-skim-2.ensures in
+    let opening = c.in_ok-counts.ensures in
+    let first = c.in_ok-skim.ensures in
+    let second = c.in_ok-skim-2.ensures in
     let same = opening.same ∙ new.bytes in
     checked c.args.fares c.args.terms c.args.bytes.now h p q e
     (opening.value ∙ (λ i. opening_at c.args.fares c.args.terms (new.bytes i) (new.place i)))

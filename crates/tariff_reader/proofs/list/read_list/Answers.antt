@@ -16,12 +16,12 @@ list-there w bs t p k q ms n e same few many count marks =
 
 pub returns : goal.returns
 returns c =
-    let first = c.in-ok-count.ensures in
-    let then = c.in-ok-read-marks.ensures in
-    let few : c.in-ok-count.count ≤ 8 = first.says.limit.1 in
+    let first = c.in_ok-count.ensures in
+    let then = c.in_ok-read_marks.ensures in
+    let few : c.in_ok-count.count ≤ 8 = first.says.limit.1 in
     let zeros : List ℕ = replicate 8 0 in
-    let n : length (take c.in-ok-count.count zeros) ≡ c.in-ok-count.count = length-take-le c.in-ok-count.count zeros few in
+    let n : length (take c.in_ok-count.count zeros) ≡ c.in_ok-count.count = length-take-le c.in_ok-count.count zeros few in
     record {
       same = then.same ∙ first.same;
-      value = list-there c.args.width (text c.args.reader.now) (text c.number.new.self) c.args.reader.now.place c.in-ok-count.count c.number.new.self.place c.read-marks.new.places _ c.read-marks.new.reader.place first.same n (c.read-marks.auto.places ∙ n) first.value then.value;
+      value = list-there c.args.width (text c.args.reader.now) (text c.number.new.self) c.args.reader.now.place c.in_ok-count.count c.number.new.self.place c.read_marks.new.places _ c.read_marks.new.reader.place first.same n (c.read_marks.auto.places ∙ n) first.value then.value;
     }

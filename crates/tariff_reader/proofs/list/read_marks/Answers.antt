@@ -13,11 +13,11 @@ mark w bs least p = number_at 0 (w - 1) least bs p
 pub loop-place-init : goal.loop-place-init
 loop-place-init c = (refl, fill_none (mark c.args.width (text c.args.reader.now)) (λ m _. m + 1) (length c.args.places.now) 0 c.args.reader.now.place c.args.places.now)
 
-pub returns-in-err-mark : goal.returns-in-err-mark
-returns-in-err-mark c =
+pub returns-in_err-mark : goal.returns-in_err-mark
+returns-in_err-mark c =
     let inv = c.loop-place.invariant in
-    let here = c.in-err-mark.ensures in
-    let out = err_from_is_err_and c.from-residual.result c.from-residual.ensures.1 in
+    let here = c.in_err-mark.ensures in
+    let out = err_from_is_err_and c.from_residual.result c.from_residual.ensures.1 in
     let found = here.value ∙ ap (λ t. mark c.args.width t c.loop-place.least c.loop-place.reader.place) inv.0 in
     rw (out.1, out.2) (record {
       same = here.same ∙ inv.0;
@@ -27,10 +27,10 @@ returns-in-err-mark c =
 pub loop-place-preserved : goal.loop-place-preserved
 loop-place-preserved c =
     let inv = c.loop-place.invariant in
-    let here = c.in-ok-mark.ensures in
+    let here = c.in_ok-mark.ensures in
     let found = here.value ∙ ap (λ t. mark c.args.width t c.loop-place.least c.loop-place.reader.place) inv.0 in (
       here.same ∙ inv.0,
-      inv.1 ∙ fill_more (mark c.args.width (text c.args.reader.now)) (λ m _. m + 1) (length c.args.places.now) c.loop-place.place-index c.loop-place.least c.loop-place.reader.place c.loop-place.places c.in-ok-mark.mark c.step.new.self.place (omega arith) (omega arith) found,
+      inv.1 ∙ fill_more (mark c.args.width (text c.args.reader.now)) (λ m _. m + 1) (length c.args.places.now) c.loop-place.place-index c.loop-place.least c.loop-place.reader.place c.loop-place.places c.in_ok-mark.mark c.step.new.self.place (omega arith) (omega arith) found,
     )
 
 pub returns : goal.returns

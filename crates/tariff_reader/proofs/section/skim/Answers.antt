@@ -39,12 +39,12 @@ reads line_at_lem n i p q h =
 pub loop-index-init : goal.loop-index-init
 loop-index-init g c = let all : c.args.count - 0 ≡ c.args.count = omega arith in (refl, ap (λ n. mapped (λ _. tt {0}) (lines_at (g.L.Line.reading c.args.width (text c.args.reader.now)) n 0 c.args.reader.now.place)) (sym all))
 
-pub returns-in-err-read : goal.returns-in-err-read
-returns-in-err-read g c =
+pub returns-in_err-read : goal.returns-in_err-read
+returns-in_err-read g c =
     let line_at_lem = g.L.Line.reading c.args.width in
-    let here = c.in-err-read.ensures in
+    let here = c.in_err-read.ensures in
     let inv = c.loop-index.invariant in
-    let out = err_from_is_err_and c.from-residual.result c.from-residual.ensures.1 in
+    let out = err_from_is_err_and c.from_residual.result c.from_residual.ensures.1 in
     let found = here.value ∙ ap (λ t. line_at_lem t c.loop-index.index c.loop-index.reader.place) inv.0 in
     let stop = many_stop (λ _. tt {0}) (line_at_lem (text c.args.reader.now)) (λ _ i. i + 1) c.args.count c.loop-index.index c.loop-index.index c.loop-index.reader.place _ (omega arith) found in
     rw (out.1, out.2) (record { same = here.same ∙ inv.0; value = stops _ _ (inv.1 ∙ stop) })
@@ -52,10 +52,10 @@ returns-in-err-read g c =
 pub loop-index-preserved : goal.loop-index-preserved
 loop-index-preserved g c =
     let line_at_lem = g.L.Line.reading c.args.width in
-    let here = c.in-ok-read.ensures in
+    let here = c.in_ok-read.ensures in
     let inv = c.loop-index.invariant in
     let found = here.value ∙ ap (λ t. line_at_lem t c.loop-index.index c.loop-index.reader.place) inv.0 in
-    (here.same ∙ inv.0, inv.1 ∙ many_more (λ _. tt {0}) (line_at_lem (text c.args.reader.now)) (λ _ i. i + 1) c.args.count c.loop-index.index c.loop-index.index c.loop-index.reader.place c.in-ok-read.field-0 c.read.new.reader.place (omega arith) found)
+    (here.same ∙ inv.0, inv.1 ∙ many_more (λ _. tt {0}) (line_at_lem (text c.args.reader.now)) (λ _ i. i + 1) c.args.count c.loop-index.index c.loop-index.index c.loop-index.reader.place c.in_ok-read.field-0 c.read.new.reader.place (omega arith) found)
 
 pub returns : goal.returns
 returns g c =

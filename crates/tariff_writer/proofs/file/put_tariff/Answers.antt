@@ -16,10 +16,10 @@ returns c =
     let fares = c.args.fares.now in
     let terms = c.args.terms.now in
     let t = tariff_of c.args.width fares terms in
-    let numbers = encode c.args.width ++ (encode c.count-of.result ++ encode c.count-of-2.result) in
-    let parts = written_more c.args.out.now 0 numbers (flat_map fare_bytes fares ++ flat_map term_bytes terms) (omega arith) c.put-three-place.ensures.written c.put-two.ensures.written in
-    let file = subst (λ (l : List ℕ). Written c.args.out.now 0 l c.put-two.new.out c.put-two.result) (numbers_then_lines c.args.width _ _ fares terms c.count-of.ensures c.count-of-2.ensures) parts in
-    let proper : Proper t = record { lawful = c.requires.lawful; whole = record { fares = c.put-two.ensures.whole.0; terms = c.put-two.ensures.whole.1 } } in
+    let numbers = encode c.args.width ++ (encode c.count_of.result ++ encode c.count_of-2.result) in
+    let parts = written_more c.args.out.now 0 numbers (flat_map fare_bytes fares ++ flat_map term_bytes terms) (omega arith) c.put_three-place.ensures.written c.put_two.ensures.written in
+    let file = subst (λ (l : List ℕ). Written c.args.out.now 0 l c.put_two.new.out c.put_two.result) (numbers_then_lines c.args.width _ _ fares terms c.count_of.ensures c.count_of-2.ensures) parts in
+    let proper : Proper t = record { lawful = c.requires.lawful; whole = record { fares = c.put_two.ensures.whole.0; terms = c.put_two.ensures.whole.1 } } in
     record {
       proper = proper;
       file = file;

@@ -7,13 +7,13 @@ put-place-requires g c =
     let long = length-append (g.A.Encode.bytes c.args.a.now) (g.B.Encode.bytes c.args.b.now ++ g.C.Encode.bytes c.args.c.now) in
     omega (arith, c.requires)
 
-pub put-two-requires : goal.put-two-requires
-put-two-requires g c =
+pub put_two-requires : goal.put_two-requires
+put_two-requires g c =
     let long = length-append (g.A.Encode.bytes c.args.a.now) (g.B.Encode.bytes c.args.b.now ++ g.C.Encode.bytes c.args.c.now) in
     omega (arith, c.requires, c.put-place.ensures.written.place)
 
 pub returns : goal.returns
 returns g c = record {
-  written = written_more c.args.out.now c.args.place (g.A.Encode.bytes c.args.a.now) (g.B.Encode.bytes c.args.b.now ++ g.C.Encode.bytes c.args.c.now) (omega (arith, c.requires)) c.put-place.ensures.written c.put-two.ensures.written;
-  whole = (c.put-place.ensures.whole, c.put-two.ensures.whole.0, c.put-two.ensures.whole.1);
+  written = written_more c.args.out.now c.args.place (g.A.Encode.bytes c.args.a.now) (g.B.Encode.bytes c.args.b.now ++ g.C.Encode.bytes c.args.c.now) (omega (arith, c.requires)) c.put-place.ensures.written c.put_two.ensures.written;
+  whole = (c.put-place.ensures.whole, c.put_two.ensures.whole.0, c.put_two.ensures.whole.1);
 }

@@ -4,7 +4,7 @@ use Rattle.marks.specs.declared.set.MarkSet.{MarkSet}
 use Rattle.marks.specs.MarkSets.{marks_of}
 use Rattle.world_book.specs.Common.{common_step, none_step}
 use Rattle.world_book.proofs.worlds.common_marks.Goals as goal
-use Rattle.world_book.proofs.worlds.common_marks.Goals.{then-keep-world, else-keep-world}
+use Rattle.world_book.proofs.worlds.common_marks.Goals.{then-keep_world, else-keep_world}
 
 pub loop-i-preserved : goal.loop-i-preserved
 loop-i-preserved c =
@@ -16,11 +16,11 @@ loop-i-preserved c =
     let near : i < length ws = omega arith in
     let more : map marks_of (take (i + 1) ws) ≡ before ++ marks_of x ∷ [] =
     map_more marks_of ws i x near ∙ ap (λ (y : MarkSet). before ++ marks_of y ∷ []) (sym c.index-worlds-i.is) in
-    let told = c.keep-world.ensures in
-    let none : c.if-keep-world.none ≡ not c.keep-world.result && c.loop-i.none =
-    elim c.if-keep-world.branch [
-      | then-keep-world v ↦ v.none-is ∙ ap (λ (b : Bool). not b && c.loop-i.none) (sym v.if-keep-world.true)
-      | else-keep-world v ↦ v.none-is ∙ ap (λ (b : Bool). not b && c.loop-i.none) (sym v.if-keep-world.false)
+    let told = c.keep_world.ensures in
+    let none : c.if-keep_world.none ≡ not c.keep_world.result && c.loop-i.none =
+    elim c.if-keep_world.branch [
+      | then-keep_world v ↦ v.none-is ∙ ap (λ (b : Bool). not b && c.loop-i.none) (sym v.if-keep_world.true)
+      | else-keep_world v ↦ v.none-is ∙ ap (λ (b : Bool). not b && c.loop-i.none) (sym v.if-keep_world.false)
     ] in (
       record {
         width = told.keeps.width ∙ c.loop-i.invariant.0.width;

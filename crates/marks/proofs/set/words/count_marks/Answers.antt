@@ -10,8 +10,8 @@ pub loop-w-init : goal.loop-w-init
 unfolding size
 loop-w-init c = refl
 
-pub overflow-add-n : goal.overflow-add-n
-overflow-add-n c =
+pub overflow_add-n : goal.overflow_add-n
+overflow_add-n c =
     let ws = c.args.words.now in
     let e = size_word ws c.loop-w.w-index (omega arith) in
     let b = size_le (64 * (c.loop-w.w-index + 1)) (held ws) in

@@ -9,36 +9,36 @@ use Rattle.marks.proofs.set.words.count_overlap.Goals as goal
 pub loop-i-init : goal.loop-i-init
 loop-i-init c = overlaps_none (below c.args.width) (held c.args.a.now) (held c.args.b.now)
 
-pub overflow-add-total : goal.overflow-add-total
-overflow-add-total c =
+pub overflow_add-total : goal.overflow_add-total
+overflow_add-total c =
     let so_far = overlaps_few _ _ _ _ _ c.loop-i.invariant in
-    let word = overlaps_few _ _ _ _ _ c.overlap-word-word.ensures in
+    let word = overlaps_few _ _ _ _ _ c.overlap_word-word.ensures in
     omega arith
 
-pub overflow-add-total-in-loop-i : goal.overflow-add-total-in-loop-i
-overflow-add-total-in-loop-i c =
+pub overflow_add-total-in-loop-i : goal.overflow_add-total-in-loop-i
+overflow_add-total-in-loop-i c =
     let so_far = overlaps_few _ _ _ _ _ c.loop-i.invariant in
-    let word = overlaps_few _ _ _ _ _ c.overlap-word-word.ensures in
+    let word = overlaps_few _ _ _ _ _ c.overlap_word-word.ensures in
     omega arith
 
-pub overflow-add-total-in-loop-i-2 : goal.overflow-add-total-in-loop-i-2
-overflow-add-total-in-loop-i-2 c =
+pub overflow_add-total-in-loop-i-2 : goal.overflow_add-total-in-loop-i-2
+overflow_add-total-in-loop-i-2 c =
     let so_far = overlaps_few _ _ _ _ _ c.loop-i.invariant in
-    let word = overlaps_few _ _ _ _ _ c.overlap-word-word.ensures in
+    let word = overlaps_few _ _ _ _ _ c.overlap_word-word.ensures in
     omega arith
 
-pub overflow-add-total-in-loop-i-3 : goal.overflow-add-total-in-loop-i-3
-overflow-add-total-in-loop-i-3 c =
+pub overflow_add-total-in-loop-i-3 : goal.overflow_add-total-in-loop-i-3
+overflow_add-total-in-loop-i-3 c =
     let so_far = overlaps_few _ _ _ _ _ c.loop-i.invariant in
-    let word = overlaps_few _ _ _ _ _ c.overlap-word-word.ensures in
+    let word = overlaps_few _ _ _ _ _ c.overlap_word-word.ensures in
     omega arith
 
 pub loop-i-preserved : goal.loop-i-preserved
 loop-i-preserved c =
     let i = c.loop-i.i in
-    overlaps_more i _ _ _ _ _ _ c.loop-i.total c.overlap-word-word.result
-    (λ k l. sym (c.word-below.ensures k l)) (held_word c.args.a.now i) (held_word c.args.b.now i)
-    c.loop-i.invariant c.overlap-word-word.ensures
+    overlaps_more i _ _ _ _ _ _ c.loop-i.total c.overlap_word-word.result
+    (λ k l. sym (c.word_below.ensures k l)) (held_word c.args.a.now i) (held_word c.args.b.now i)
+    c.loop-i.invariant c.overlap_word-word.ensures
 
 pub returns : goal.returns
 returns c = overlaps_all c.args.width (64 * c.loop-i.i) _ _ _ (omega arith) c.requires.first c.requires.second c.loop-i.invariant

@@ -30,8 +30,8 @@ loop-i-preserved c =
     let b = c.args.b.now in
     let i = c.loop-i.i in
     let how = c.args.how in
-    filled_more (joined how (held a) (held b)) c.loop-i.out i c.join-word.result (omega arith) c.loop-i.invariant
-    (λ k l. c.join-word.ensures k l ∙ sym (joined_at how (held a) (held b) _ _ (64 * i + k) k (held_word a i k l) (held_word b i k l)))
+    filled_more (joined how (held a) (held b)) c.loop-i.out i c.join_word.result (omega arith) c.loop-i.invariant
+    (λ k l. c.join_word.ensures k l ∙ sym (joined_at how (held a) (held b) _ _ (64 * i + k) k (held_word a i k l) (held_word b i k l)))
 
 pub returns : goal.returns
 returns c =

@@ -7,7 +7,7 @@ use Rattle.marks.proofs.set.words.words_below.Goals as goal
 
 pub loop-i-preserved : goal.loop-i-preserved
 loop-i-preserved c =
-    filled_more (below c.args.width) c.loop-i.words c.loop-i.i c.word-below.result (omega arith) c.loop-i.invariant c.word-below.ensures
+    filled_more (below c.args.width) c.loop-i.words c.loop-i.i c.word_below.result (omega arith) c.loop-i.invariant c.word_below.ensures
 
 pub returns : goal.returns
 returns c =
