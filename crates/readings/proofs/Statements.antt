@@ -46,20 +46,20 @@ module _ {B : Book} {lines : List Rule} {facts : Marks} (fit : Fit B lines facts
   methods_stop =
       record {
         once = ends.one_end fit;
-        reading = λ k n T U. ends.ends-at-least fit k;
-        bound = λ k n T U. ends.stops-bound fit k;
+        reading = λ k n T U. ends.ends_at_least fit k;
+        bound = λ k n T U. ends.stops_bound fit k;
       }
 
   pub methods_agree : MethodsAgree B lines facts
   methods_agree =
       record {
         grows = λ T F T' F' s. (s.grown.around, λ m t. equal_within (sym s.joined) m (or_left (F m) (outside B.width s.Y m) t));
-        second_as_first = λ k T F. two.second-first fit;
-        first_as_second = λ k T U. two.first-second fit;
+        second_as_first = λ k T F. two.second_first fit;
+        first_as_second = λ k T U. two.first_second fit;
         stop = λ j k n T U. ends.stop fit j k;
-        end = λ j k n n' T U T' U'. ends.stops-once fit j k;
+        end = λ j k n n' T U T' U'. ends.stops_once fit j k;
         verdict = λ j k n n' T U T' U' v v' s s' a b.
-            let e = ends.stops-once fit j k s s' in
+            let e = ends.stops_once fit j k s s' in
             one_verdict B lines facts T U v v' a (subst₂ (λ (X Y : Marks). (the_verdict v').says B lines facts X Y) (sym e.1) (sym e.2) b);
       }
 
@@ -76,7 +76,7 @@ module _ {B : Book} {lines : List Rule} {facts : Marks} (fit : Fit B lines facts
   says_one_thing = record { answer = answer_once; verdict = verdict_once fit }
 
   pub relations_decide : RelationsDecide B lines facts
-  relations_decide = record { yields = yields_exist_once; reading = ends.one-least-reading fit; rounds = methods_stop; says = says_one_thing }
+  relations_decide = record { yields = yields_exist_once; reading = ends.one_least_reading fit; rounds = methods_stop; says = says_one_thing }
 
   pub computed_right : ComputedRight B lines facts
   computed_right = record { full = full_right fit; guarded = guarded_right fit; settled = (settled_right fit).stops; verdict = λ T U. verdict_right fit }

@@ -59,7 +59,7 @@ lawful_from w least [] h = tt
 lawful_from w least (m ∷ ms) h = (h.0, h.1, lawful_from w (m + 1) ms h.2)
 
 pub lawful_ascending : (w : ℕ) (ms : List ℕ) → Ascends ms → AllBelow w ms → Ascending w 0 ms
-lawful_ascending w ms a b = lawful_from w 0 ms (ascents.ascends-ascending w ms a b)
+lawful_ascending w ms a b = lawful_from w 0 ms (ascents.ascends_ascending w ms a b)
 
 -- the marks of a record that holds them
 pub used_held : (ms : List ℕ) → used (held ms) ≡ ms
@@ -101,7 +101,7 @@ module _ (bs : List ℕ) (bytes : Bytes bs) where
     abbrev marks_ok : ℕ → List ℕ → Type 0
     marks_ok k ms = (length ms ≡ k) × Ascending w 0 ms
 
-    marks_say : (k p : ℕ) (r : Result (List ℕ × ℕ) NumberFault) → listing.Marks-answer w bs k 0 p r → Says bs (flat_map encode) (marks_ok k) (MarksStop w k) p r
+    marks_say : (k p : ℕ) (r : Result (List ℕ × ℕ) NumberFault) → listing.Marks_answer w bs k 0 p r → Says bs (flat_map encode) (marks_ok k) (MarksStop w k) p r
     marks_say k p (Ok x) h = record { lawful = (h.many, h.ascending); place = h.place; front = h.front }
     marks_say k p (Err e) h =
         let q : ℕ = p + length (flat_map encode h.marks) in
@@ -119,11 +119,11 @@ module _ (bs : List ℕ) (bytes : Bytes bs) where
 
     marks_exact : (k : ℕ) → Exact bs (marks_at w bs k 0) (flat_map encode) (marks_ok k) (MarksStop w k)
     marks_exact k = record {
-      says = λ p. marks_say k p (marks_at w bs k 0 p) (listing.right-marks w bs some bytes k 0 p);
+      says = λ p. marks_say k p (marks_at w bs k 0 p) (listing.right_marks w bs some bytes k 0 p);
       reads = λ ms p rest lawful h.
           let none : k - length ms ≡ 0 = omega (arith, lawful.0) in
           let q : ℕ = p + length (flat_map encode ms) in
-          listing.marks-read w bs small ms k 0 p rest (omega (arith, lawful.0)) lawful.1 h
+          listing.marks_read w bs small ms k 0 p rest (omega (arith, lawful.0)) lawful.1 h
           ∙ ap (λ n. mapped (λ l. ms ++ l) (marks_at w bs n (least_behind 0 ms) q)) none
           ∙ ap (λ l. Ok (l, q)) (append-nil ms);
       refuses = λ p e r.
@@ -135,7 +135,7 @@ module _ (bs : List ℕ) (bytes : Bytes bs) where
           let left : k - length ms ≡ suc (k - (length ms + 1)) = omega arith in
           let byte : p + length r.before ≡ q + 0 = omega (arith, ap length s.front) in
           let one = (number_exact 0 (w - 1) (least_behind 0 ms) (omega arith)).refuses q e (record { before = []; at = r.at; up = r.up; why = r.why; rest = r.rest; stop = record { none = refl; within = s.within; same = s.same }; front = behind bs p (flat_map encode ms) r.rest front; test = r.test; is = r.is ∙ ap (λ n. r.up (fault r.why n)) byte }) in
-          listing.marks-read w bs small ms k 0 p r.rest (omega arith) s.ascending front
+          listing.marks_read w bs small ms k 0 p r.rest (omega arith) s.ascending front
           ∙ ap (λ n. mapped (λ l. ms ++ l) (marks_at w bs n (least_behind 0 ms) q)) left
           ∙ ap (λ z. mapped (λ l. ms ++ l) (and_then z (λ m n. mapped (λ l. m ∷ l) (marks_at w bs (k - (length ms + 1)) (m + 1) n)))) one;
     }
@@ -166,7 +166,7 @@ module _ (bs : List ℕ) (bytes : Bytes bs) where
 
     from_parts : (l : MarkList) → count_ok l.count × rest_ok l.count l → TidyList w l
     from_parts l h =
-        let lawful = ascents.ascending-ascends w 0 (used l) (ascending_lawful w 0 (used l) h.1.0.1) in
+        let lawful = ascents.ascending_ascends w 0 (used l) (ascending_lawful w 0 (used l) h.1.0.1) in
         record { lawful = record { count = h.0.0.1; ascends = lawful.0; below = lawful.1 }; zeros = h.1.1 }
 
     to_stop : (before : List ℕ) (at : Limits) (up : NumberFault → NumberFault) (place : ListPlace) → ListReached w place → before ≡ list_before place → at ≡ list_limits w place → up ≡ as_is → parts_stops before at up

@@ -18,10 +18,10 @@ use Rattle.worked_sheets.proofs.Fitting.{lines_lawful}
 use Rattle.worked_sheets.proofs.Stepping.{yields_are}
 use Rattle.worked_sheets.proofs.Working.{worked, says}
 
-sample : Lawful (line_book 5 trips.sample-terms)
-sample = lines_lawful 5 trips.sample-terms tt
+sample : Lawful (line_book 5 trips.sample_terms)
+sample = lines_lawful 5 trips.sample_terms tt
 
-pub worlds_lawful : Lawful worlds.two-worlds
+pub worlds_lawful : Lawful worlds.two_worlds
 worlds_lawful = world_lawful 3 (among (0 ∷ 1 ∷ []) ∷ among (0 ∷ 2 ∷ []) ∷ [])
 
 pub no_facts : Worked trips.no_facts
@@ -46,19 +46,19 @@ pub odd_loop : Worked loops.odd_loop
 odd_loop = worked loops.odd_loop (bare_lawful 1) (record { within = tt; sets = tt; settled = refl; verdict = refl; answers = tt; all_answers = refl; steps = tt; all_steps = refl; sound = tt; others = tt })
 
 pub suspect_with_a_sound_reading : Worked denials.suspect_with_a_sound_reading
-suspect_with_a_sound_reading = worked denials.suspect_with_a_sound_reading (lines_lawful 4 denials.excluding-terms tt) (record { within = tt; sets = tt; settled = refl; verdict = refl; answers = tt; all_answers = refl; steps = tt; all_steps = refl; sound = tt; others = tt })
+suspect_with_a_sound_reading = worked denials.suspect_with_a_sound_reading (lines_lawful 4 denials.excluding_terms tt) (record { within = tt; sets = tt; settled = refl; verdict = refl; answers = tt; all_answers = refl; steps = tt; all_steps = refl; sound = tt; others = tt })
 
 pub denied_by_the_terms : Worked denials.denied_by_the_terms
-denied_by_the_terms = worked denials.denied_by_the_terms (lines_lawful 2 denials.denying-terms tt) (record { within = tt; sets = tt; settled = refl; verdict = refl; answers = tt; all_answers = refl; steps = tt; all_steps = refl; sound = tt; others = tt })
+denied_by_the_terms = worked denials.denied_by_the_terms (lines_lawful 2 denials.denying_terms tt) (record { within = tt; sets = tt; settled = refl; verdict = refl; answers = tt; all_answers = refl; steps = tt; all_steps = refl; sound = tt; others = tt })
 
 pub denied_but_open : Worked denials.denied_but_open
-denied_but_open = worked denials.denied_but_open (lines_lawful 6 denials.open-terms tt) (record { within = tt; sets = tt; settled = refl; verdict = refl; answers = tt; all_answers = refl; steps = tt; all_steps = refl; sound = tt; others = tt })
+denied_but_open = worked denials.denied_but_open (lines_lawful 6 denials.open_terms tt) (record { within = tt; sets = tt; settled = refl; verdict = refl; answers = tt; all_answers = refl; steps = tt; all_steps = refl; sound = tt; others = tt })
 
 pub book_feeds_a_line : Worked denials.book_feeds_a_line
-book_feeds_a_line = worked denials.book_feeds_a_line (lines_lawful 3 denials.feeding-terms tt) (record { within = tt; sets = tt; settled = refl; verdict = refl; answers = tt; all_answers = refl; steps = tt; all_steps = refl; sound = tt; others = tt })
+book_feeds_a_line = worked denials.book_feeds_a_line (lines_lawful 3 denials.feeding_terms tt) (record { within = tt; sets = tt; settled = refl; verdict = refl; answers = tt; all_answers = refl; steps = tt; all_steps = refl; sound = tt; others = tt })
 
 pub contradicting_book : Worked denials.contradicting_book
-contradicting_book = worked denials.contradicting_book (lines_lawful 3 denials.contradicting-terms tt) (record { within = tt; sets = tt; settled = refl; verdict = refl; answers = tt; all_answers = refl; steps = tt; all_steps = refl; sound = tt; others = tt })
+contradicting_book = worked denials.contradicting_book (lines_lawful 3 denials.contradicting_terms tt) (record { within = tt; sets = tt; settled = refl; verdict = refl; answers = tt; all_answers = refl; steps = tt; all_steps = refl; sound = tt; others = tt })
 
 pub two_worlds_no_facts : Worked worlds.two_worlds_no_facts
 two_worlds_no_facts = worked worlds.two_worlds_no_facts worlds_lawful (record { within = tt; sets = tt; settled = refl; verdict = refl; answers = tt; all_answers = refl; steps = tt; all_steps = refl; sound = tt; others = tt })

@@ -8,9 +8,9 @@ loop-m-init c = put_none (marks_of c.args.marks.now) (marks_of c.args.lower.now)
 
 pub loop-m-preserved : goal.loop-m-preserved
 loop-m-preserved c =
-    let within = c.in_some.ensures.within in
+    let within = c.in-Some.ensures.within in
     put_more (marks_of c.args.marks.now) (marks_of c.args.lower.now) (marks_of c.args.upper.now) c.args.out.now
-    c.loop-m.at c.in_some.m c.number.result c.loop-m.out c.in_some.ensures.next (omega (arith, c.requires, c.loop-m.auto.out))
+    c.loop-m.at c.in-Some.m c.number.result c.loop-m.out c.in-Some.ensures.next (omega (arith, c.requires, c.loop-m.auto.out))
     (record { answer = c.answer_of.result; says = c.answer_of.ensures; number = c.number.ensures }) c.loop-m.invariant
 
 pub returns : goal.returns

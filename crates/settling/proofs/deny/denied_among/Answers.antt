@@ -20,9 +20,9 @@ loop-m-preserved g c =
     let B = g.B.TermBook.book c.args.book.now in
     let S = marks_of c.args.at.now in
     let C = marks_of c.args.tried.now in
-    let m = c.in_some.m in
-    let low = c.in_some.ensures.next in
-    let within = c.in_some.ensures.within in
+    let m = c.in-Some.m in
+    let low = c.in-Some.ensures.next in
+    let within = c.in-Some.ensures.within in
     let before = c.loop-m.invariant.1 in
     let is = c.in_ok-denies.ensures in (
       omega arith,

@@ -24,15 +24,15 @@ right-read v w bs r e some bytes h =
 pub returns-in_err-read_string : goal.returns-in_err-read_string
 returns-in_err-read_string c =
     let out = err_from_is_err_and c.from_residual.result c.from_residual.ensures.1 in
-    let wide = made-width c.in_ok.set c.width.result c.args.old.now.width c.width.ensures c.in_ok.ensures in
-    let bytes = All-from_get_or (λ b. b < 256) c.args.bytes.now 0 (λ i _. (c.type-inv.bytes i).fits) in
-    let right = right-read c.args.old.now.width c.in_ok.set.width c.args.bytes.now _ wide c.args.old.now.some bytes c.in_err-read_string.ensures.value in
+    let wide = made-width c.in-Ok.set c.width.result c.args.old.now.width c.width.ensures c.in-Ok.ensures in
+    let bytes = All-from_get_or (λ b. b < 256) c.args.bytes.now 0 (λ i _. (c.type_inv.bytes i).fits) in
+    let right = right-read c.args.old.now.width c.in-Ok.set.width c.args.bytes.now _ wide c.args.old.now.some bytes c.in_err-read_string.ensures.value in
     rw (out.1, out.2) (record { width = tt; value = right.0; says = right.1 })
 
 pub returns : goal.returns
 returns c =
-    let wide = made-width c.in_ok.set c.width.result c.args.old.now.width c.width.ensures c.in_ok.ensures in
-    let bytes = All-from_get_or (λ b. b < 256) c.args.bytes.now 0 (λ i _. (c.type-inv.bytes i).fits) in
+    let wide = made-width c.in-Ok.set c.width.result c.args.old.now.width c.width.ensures c.in-Ok.ensures in
+    let bytes = All-from_get_or (λ b. b < 256) c.args.bytes.now 0 (λ i _. (c.type_inv.bytes i).fits) in
     let here = c.in_ok-read_string.ensures in
-    let right = right-read c.args.old.now.width c.in_ok.set.width c.args.bytes.now _ wide c.args.old.now.some bytes here.value in
+    let right = right-read c.args.old.now.width c.in-Ok.set.width c.args.bytes.now _ wide c.args.old.now.some bytes here.value in
     record { width = here.width ∙ wide; value = right.0; says = right.1.0 }

@@ -12,10 +12,10 @@ loop-m-init c = (omega arith, refl, omega arith)
 pub loop-m-preserved : goal.loop-m-preserved
 loop-m-preserved c =
     let S = marks_of c.args.facts.now in
-    let low = c.in_some.ensures.next in
-    let within = c.in_some.ensures.within in
+    let low = c.in-Some.ensures.next in
+    let within = c.in-Some.ensures.within in
     let after = low.after in
-    let more = ap length (bytes_next S c.loop-m.at c.in_some.m low) ∙ length-append (mark_bytes c.loop-m.at S) (encode c.in_some.m) in
+    let more = ap length (bytes_next S c.loop-m.at c.in-Some.m low) ∙ length-append (mark_bytes c.loop-m.at S) (encode c.in-Some.m) in
     let inv = c.loop-m.invariant in
     let one = c.number_size-total.ensures in
     (omega arith, omega arith, omega arith)

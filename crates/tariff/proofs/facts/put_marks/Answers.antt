@@ -14,17 +14,17 @@ loop-m-init c = (omega arith, written_none c.args.out.now c.args.place)
 pub put_number-end-requires : goal.put_number-end-requires
 put_number-end-requires c =
     let S = marks_of c.args.facts.now in
-    let room = next_room S c.loop-m.at c.in_some.m c.args.facts.now.width c.in_some.ensures.next c.in_some.ensures.within in
+    let room = next_room S c.loop-m.at c.in-Some.m c.args.facts.now.width c.in-Some.ensures.next c.in-Some.ensures.within in
     omega (arith, c.requires, c.loop-m.invariant.1.place, c.loop-m.auto.out)
 
 pub loop-m-preserved : goal.loop-m-preserved
 loop-m-preserved c =
     let S = marks_of c.args.facts.now in
-    let low = c.in_some.ensures.next in
-    let within = c.in_some.ensures.within in (
+    let low = c.in-Some.ensures.next in
+    let within = c.in-Some.ensures.within in (
       omega arith,
-      subst (λ l. Written c.args.out.now c.args.place l c.put_number-end.new.out c.put_number-end.result) (sym (bytes_next S c.loop-m.at c.in_some.m low))
-          (written_more c.args.out.now c.args.place (mark_bytes c.loop-m.at S) (encode c.in_some.m) (omega (arith, c.requires)) c.loop-m.invariant.1 c.put_number-end.ensures),
+      subst (λ l. Written c.args.out.now c.args.place l c.put_number-end.new.out c.put_number-end.result) (sym (bytes_next S c.loop-m.at c.in-Some.m low))
+          (written_more c.args.out.now c.args.place (mark_bytes c.loop-m.at S) (encode c.in-Some.m) (omega (arith, c.requires)) c.loop-m.invariant.1 c.put_number-end.ensures),
     )
 
 pub returns : goal.returns

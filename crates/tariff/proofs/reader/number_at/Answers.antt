@@ -12,7 +12,7 @@ returns c =
     let bs = c.args.bytes.now in
     let p = c.args.place in
     let value = c.judged.ensures.value ∙ ap (λ l. tested c.args.low c.args.high c.args.least p (decode l)) (take_rest bs p) in
-    let bytes = All-from_get_or (λ b. b < 256) bs 0 (λ i _. (c.type-inv.bytes i).fits) in
+    let bytes = All-from_get_or (λ b. b < 256) bs 0 (λ i _. (c.type_inv.bytes i).fits) in
     record {
       value = value;
       within = IfOk-weaker c.judged.result _ _ (λ x h. omega (arith, ap length (take_rest bs p), length-drop p bs)) c.judged.ensures.within;

@@ -19,5 +19,5 @@ right m n bs bytes = record {
 pub returns : goal.returns
 returns c = record {
   value = c.scan.ensures;
-  says = right c.args.fares c.args.terms c.args.bytes.now (All-from_get_or (λ b. b < 256) c.args.bytes.now 0 (λ i _. (c.type-inv.bytes i).fits));
+  says = right c.args.fares c.args.terms c.args.bytes.now (All-from_get_or (λ b. b < 256) c.args.bytes.now 0 (λ i _. (c.type_inv.bytes i).fits));
 }

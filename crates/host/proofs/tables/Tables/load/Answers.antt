@@ -3,20 +3,20 @@ use Rattle.tariff_format.specs.Files.{file_at}
 use Rattle.host.proofs.Loading.{loaded, not_loaded}
 use Rattle.host.proofs.tables.Tables.load.Goals as goal
 
-pub returns-in_ok : goal.returns-in_ok
-returns-in_ok c =
-    let read = c.in_ok.ensures in
+pub returns-in-Ok : goal.returns-in-Ok
+returns-in-Ok c =
+    let read = c.in-Ok.ensures in
     let m = length c.args.self.now.fares in
     let n = length c.args.self.now.terms in
     let m-is : m ≡ 1024 = search rules in
     let n-is : n ≡ 512 = search rules in
     loaded m n c.args.file.now m-is n-is _ c.args.self.now.fares c.args.self.now.terms (file_at m n c.args.file.now) read.says.answer read.value read.fares read.terms
 
-pub returns-in_err : goal.returns-in_err
-returns-in_err c =
-    let read = c.in_err.ensures in
+pub returns-in-Err : goal.returns-in-Err
+returns-in-Err c =
+    let read = c.in-Err.ensures in
     let m = length c.args.self.now.fares in
     let n = length c.args.self.now.terms in
     let m-is : m ≡ 1024 = search rules in
     let n-is : n ≡ 512 = search rules in
-    not_loaded m n c.args.file.now m-is n-is c.in_err.fault (file_at m n c.args.file.now) read.says.answer read.value
+    not_loaded m n c.args.file.now m-is n-is c.in-Err.fault (file_at m n c.args.file.now) read.says.answer read.value
