@@ -1,5 +1,8 @@
 -- When two records are equal: where they agree in all used places.
-use Rattle.std.specs.Prelude.{◌≡◌}
+use Rattle.std.specs.Prelude.{◌≡◌, Bool, nat_eq}
+use Rattle.std.specs.Ordering.{on, eq_of_both}
+use Rattle.std.specs.Option.{option_eq}
+use Rattle.std.specs.Cmp.Lexicographic.{pointwise}
 use Rattle.lines.specs.declared.bar.Bar.{Bar}
 use Rattle.lines.specs.declared.fare.FareLine.{FareLine}
 use Rattle.lines.specs.declared.list.MarkList.{MarkList}
@@ -23,3 +26,16 @@ pub record SameTerm (a b : TermLine) : Type 0 where
 pub record SameBar (a b : Bar) : Type 0 where
   pub low : a.low ≡ b.low
   pub high : a.high ≡ b.high
+
+-- The same as tests that compute. The contract of each `==` says that its test is true exactly where the record above holds.
+abbrev pub lists_equal : MarkList → MarkList → Bool
+lists_equal = eq_of_both (on (λ (l : MarkList). l.count) nat_eq) (on (λ (l : MarkList). used l) (pointwise nat_eq))
+
+abbrev pub fares_equal : FareLine → FareLine → Bool
+fares_equal = eq_of_both (on (λ (l : FareLine). l.head) nat_eq) (eq_of_both (on (λ (l : FareLine). l.conditions) lists_equal) (on (λ (l : FareLine). l.unless) lists_equal))
+
+abbrev pub terms_equal : TermLine → TermLine → Bool
+terms_equal = eq_of_both (on (λ (l : TermLine). term_head l) (option_eq nat_eq)) (on (λ (l : TermLine). l.conditions) lists_equal)
+
+abbrev pub bars_equal : Bar → Bar → Bool
+bars_equal = eq_of_both (on (λ (b : Bar). b.low) nat_eq) (on (λ (b : Bar). b.high) nat_eq)

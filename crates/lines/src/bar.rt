@@ -1,7 +1,6 @@
 // Bars.
-ghost use Rattle.std.specs.Prelude.{Decides, nat_eq};
-ghost use Rattle.std.specs.Ordering.{on, eq_of_both};
-ghost use Rattle.lines.specs.Equal.{SameBar};
+ghost use Rattle.std.specs.Prelude.{◌≡◌, Decides};
+ghost use Rattle.lines.specs.Equal.{SameBar, bars_equal};
 ghost use Rattle.lines.specs.Lawful.{LawfulBar};
 ghost use Rattle.lines.specs.Views.{bar_view};
 ghost use Rattle.std.specs.Cmp.Rules.{comparing};
@@ -19,11 +18,14 @@ pub struct Bar {
 }
 
 impl PartialEq for Bar {
-    ghost eq = { eq_of_both (on (λ v. v.low) nat_eq) (on (λ v. v.high) nat_eq) };
+    ghost eq = { bars_equal };
 
     ghost laws = { Prim.search (comparing, rules) };
 
-    fn eq(&self, other: &Bar) -> bool {
+    fn eq(&self, other: &Bar) -> bool
+        ensures value { result ≡ bars_equal self.now other.now }
+        ensures same { Decides result (SameBar self.now other.now) }
+    {
         self.low == other.low && self.high == other.high
     }
 }

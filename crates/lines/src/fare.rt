@@ -1,6 +1,6 @@
 // Fare lines.
-ghost use Rattle.std.specs.Prelude.{Decides};
-ghost use Rattle.lines.specs.Equal.{SameFare};
+ghost use Rattle.std.specs.Prelude.{◌≡◌, Decides};
+ghost use Rattle.lines.specs.Equal.{SameFare, fares_equal};
 ghost use Rattle.lines.specs.Lawful.{LawfulFare};
 ghost use Rattle.std.specs.Cmp.Rules.{comparing};
 ghost use Rattle.std.proofs.Common.{rules};
@@ -18,11 +18,14 @@ pub struct FareLine {
 
 // Equal fare lines have the same head and equal lists.
 impl PartialEq for FareLine {
-    ghost equals = { λ a b r. Decides r (SameFare a b) };
+    ghost eq = { fares_equal };
 
     ghost laws = { Prim.search (comparing, rules) };
 
-    fn eq(&self, other: &FareLine) -> bool {
+    fn eq(&self, other: &FareLine) -> bool
+        ensures value { result ≡ fares_equal self.now other.now }
+        ensures same { Decides result (SameFare self.now other.now) }
+    {
         self.head == other.head
             && self.conditions == other.conditions
             && self.unless == other.unless

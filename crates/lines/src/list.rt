@@ -2,7 +2,7 @@
 ghost use Rattle.std.specs.Prelude.{◌≡◌, Decides};
 ghost use Rattle.marks.specs.MarkSets.{marks_of};
 ghost use Rattle.readings.specs.Computed.{has_all, has_none};
-ghost use Rattle.lines.specs.Equal.{SameList};
+ghost use Rattle.lines.specs.Equal.{SameList, lists_equal};
 ghost use Rattle.lines.specs.Lawful.{LawfulList};
 ghost use Rattle.lines.specs.Records.{used};
 ghost use Rattle.std.specs.Cmp.Rules.{comparing};
@@ -50,11 +50,14 @@ impl MarkList {
 
 // Equal lists have the same count and the same marks in their used places.
 impl PartialEq for MarkList {
-    ghost equals = { λ a b r. Decides r (SameList a b) };
+    ghost eq = { lists_equal };
 
     ghost laws = { Prim.search (comparing, rules) };
 
-    fn eq(&self, other: &MarkList) -> bool {
+    fn eq(&self, other: &MarkList) -> bool
+        ensures value { result ≡ lists_equal self.now other.now }
+        ensures same { Decides result (SameList self.now other.now) }
+    {
         self.count == other.count && same(self.used(), other.used())
     }
 }

@@ -1,6 +1,6 @@
 // Term lines.
 ghost use Rattle.std.specs.Prelude.{◌≡◌, Decides};
-ghost use Rattle.lines.specs.Equal.{SameTerm};
+ghost use Rattle.lines.specs.Equal.{SameTerm, terms_equal};
 ghost use Rattle.lines.specs.Lawful.{LawfulTerm};
 ghost use Rattle.lines.specs.Records.{the_kind};
 ghost use Rattle.lines.specs.Views.{term_view};
@@ -39,11 +39,14 @@ pub struct TermLine {
 
 // Equal term lines are of the same kind and have equal conditions; where they give, they have the same head.
 impl PartialEq for TermLine {
-    ghost equals = { λ a b r. Decides r (SameTerm a b) };
+    ghost eq = { terms_equal };
 
     ghost laws = { Prim.search (comparing, rules) };
 
-    fn eq(&self, other: &TermLine) -> bool {
+    fn eq(&self, other: &TermLine) -> bool
+        ensures value { result ≡ terms_equal self.now other.now }
+        ensures same { Decides result (SameTerm self.now other.now) }
+    {
         let heads = match (self.kind, other.kind) {
             (Kind::Gives, Kind::Gives) => self.head == other.head,
             (Kind::Denies, Kind::Denies) => true,
