@@ -101,7 +101,7 @@ module _ (bs : List ℕ) (bytes : Bytes bs) where
     abbrev marks_ok : ℕ → List ℕ → Type 0
     marks_ok k ms = (length ms ≡ k) × Ascending w 0 ms
 
-    marks_say : (k p : ℕ) (r : Result (List ℕ × ℕ) NumberFault) → listing.Marks_answer w bs k 0 p r → Says bs (flat_map encode) (marks_ok k) (MarksStop w k) p r
+    marks_say : (k p : ℕ) (r : Result (List ℕ × ℕ) NumberFault) → listing.MarksAnswer w bs k 0 p r → Says bs (flat_map encode) (marks_ok k) (MarksStop w k) p r
     marks_say k p (Ok x) h = record { lawful = (h.many, h.ascending); place = h.place; front = h.front }
     marks_say k p (Err e) h =
         let q : ℕ = p + length (flat_map encode h.marks) in
