@@ -39,14 +39,14 @@ pub record WorkedSheets : Type 0 where
   -- it clashes at the empty set
   pub book_clash : BookSays (denials.contradicting_book).book [] (0 ∷ 1 ∷ 2 ∷ []) true
   -- what the worlds {0, 1} and {0, 2} give at each set: the closure, and whether the book clashes
-  pub worlds_at_none : BookSays worlds.two-worlds [] (0 ∷ []) false
-  pub worlds_at_0 : BookSays worlds.two-worlds (0 ∷ []) (0 ∷ []) false
-  pub worlds_at_1 : BookSays worlds.two-worlds (1 ∷ []) (0 ∷ 1 ∷ []) false
-  pub worlds_at_2 : BookSays worlds.two-worlds (2 ∷ []) (0 ∷ 2 ∷ []) false
-  pub worlds_at_0_1 : BookSays worlds.two-worlds (0 ∷ 1 ∷ []) (0 ∷ 1 ∷ []) false
-  pub worlds_at_0_2 : BookSays worlds.two-worlds (0 ∷ 2 ∷ []) (0 ∷ 2 ∷ []) false
-  pub worlds_at_1_2 : BookSays worlds.two-worlds (1 ∷ 2 ∷ []) (0 ∷ 1 ∷ 2 ∷ []) true
-  pub worlds_at_all : BookSays worlds.two-worlds (0 ∷ 1 ∷ 2 ∷ []) (0 ∷ 1 ∷ 2 ∷ []) true
+  pub worlds_at_none : BookSays worlds.two_worlds [] (0 ∷ []) false
+  pub worlds_at_0 : BookSays worlds.two_worlds (0 ∷ []) (0 ∷ []) false
+  pub worlds_at_1 : BookSays worlds.two_worlds (1 ∷ []) (0 ∷ 1 ∷ []) false
+  pub worlds_at_2 : BookSays worlds.two_worlds (2 ∷ []) (0 ∷ 2 ∷ []) false
+  pub worlds_at_0_1 : BookSays worlds.two_worlds (0 ∷ 1 ∷ []) (0 ∷ 1 ∷ []) false
+  pub worlds_at_0_2 : BookSays worlds.two_worlds (0 ∷ 2 ∷ []) (0 ∷ 2 ∷ []) false
+  pub worlds_at_1_2 : BookSays worlds.two_worlds (1 ∷ 2 ∷ []) (0 ∷ 1 ∷ 2 ∷ []) true
+  pub worlds_at_all : BookSays worlds.two_worlds (0 ∷ 1 ∷ 2 ∷ []) (0 ∷ 1 ∷ 2 ∷ []) true
   -- sheets with these worlds and no fare lines
   pub two_worlds_no_facts : Worked worlds.two_worlds_no_facts
   pub two_worlds_one_fact : Worked worlds.two_worlds_one_fact

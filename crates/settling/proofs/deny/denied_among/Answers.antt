@@ -6,7 +6,7 @@ use Rattle.settling.specs.Growth.{denied_below}
 use Rattle.settling.proofs.Answering.{answered, given}
 use Rattle.settling.proofs.Denying.{denied_step, kept_step, denied_all, denied_none}
 use Rattle.settling.proofs.deny.denied_among.Goals as goal
-use Rattle.settling.proofs.deny.denied_among.Goals.{then-branch+in-ok-insert, else-branch}
+use Rattle.settling.proofs.deny.denied_among.Goals.{then-branch+in_ok-insert, else-branch}
 
 pub loop-m-init : goal.loop-m-init
 loop-m-init g c =
@@ -27,7 +27,7 @@ loop-m-preserved g c =
     let is = c.in_ok-denies.ensures in (
       omega arith,
       elim c.if-branch.branch [
-        | then-branch+in-ok-insert w ↦
+        | then-branch+in_ok-insert w ↦
             let new = answered w.in_ok-insert.ensures in
             subst (λ (s : MarkSet). IsSet s B.width (denied_below B S C (m + 1))) (sym w.denied-is)
             (record { width = new.width ∙ before.width; marks = new.marks ∙ denied_step B S C c.loop-m.from m low (marks_of c.loop-m.denied) before.marks (sym w.if-branch.true ∙ is) })
