@@ -3,6 +3,7 @@ use crate::jobs::Job;
 use crate::records::records;
 use crate::show::Printed;
 use crate::words::number;
+use anyhow::anyhow;
 use books::bare::BareBook;
 use books::barred::BarredBook;
 use books::book::TermBook;
@@ -62,7 +63,7 @@ fn on_ground(heap: Global, words: &[&str], layers: Layers, job: &Job) -> Printed
                 job,
             )
         }
-        _ => Err("no such book".into()),
+        _ => Err(anyhow!("no such book")),
     }
 }
 

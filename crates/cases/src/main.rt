@@ -74,6 +74,6 @@ fn with_book(heap: Global, words: &[&str]) -> Printed {
         ["sheets", first, second, calls, fares, book @ ..] => {
             on_book(heap, book, &Job::sheets(heap, first, second, calls, fares)?)
         }
-        _ => Err("no such case".into()),
+        _ => Err(anyhow!("no such case")),
     }
 }

@@ -5,7 +5,7 @@ use std::alloc::{AllocError, AllocFailed, Global};
 use std::{fmt, io};
 use tariff_format::fault::FileFault;
 
-#[derive(Drop)]
+#[derive(Debug, Drop)]
 pub(crate) enum Failure {
     // the bytes are no lawful tariff file
     Fault(FileFault),
@@ -57,13 +57,13 @@ impl<T: Drop> From<AllocFailed<T>> for Failure {
 
 impl From<&str> for Failure {
     fn from(text: &str) -> Failure {
-        Failure::Other(text.into())
+        Failure::Other(anyhow::Error::msg(text))
     }
 }
 
 impl From<String> for Failure {
     fn from(text: String) -> Failure {
-        Failure::Other(text.into())
+        Failure::Other(anyhow::Error::msg(text))
     }
 }
 

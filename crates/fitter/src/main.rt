@@ -21,14 +21,17 @@ use failure::Failure;
 use run::{input_script, run_script};
 use std::alloc::Global;
 use std::env;
+use std::process::ExitCode;
 use tariff::Tariff;
 
-fn main(rt: HostRuntime) -> Result<(), Failure> {
-    let ended = by_words(&rt);
-    if let Err(failure) = &ended {
-        let _ = eprintln!(rt; "fare: {failure}");
+fn main(rt: HostRuntime) -> ExitCode {
+    match by_words(&rt) {
+        Ok(()) => ExitCode::SUCCESS,
+        Err(failure) => {
+            let _ = eprintln!(rt; "fare: {failure}");
+            ExitCode::FAILURE
+        }
     }
-    ended
 }
 
 fn by_words(rt: &HostRuntime) -> Result<(), Failure> {
