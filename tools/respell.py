@@ -20,6 +20,7 @@ TOKEN = re.compile(r"(?<![\w'-])" + ID)
 MARKS = r"(?:(?:abbrev|unfoldable|pub|data|record|mutual)\s+)*"
 TOP = re.compile(r"^[ ]*" + MARKS + r"(" + ID + r"(?:[ ]+" + ID + r")*)[ ]*:(?!=)", re.M)
 HEAD = re.compile(r"^[ ]*" + MARKS + r"(?:data|record)[ ]+(?:pub[ ]+)?(" + ID + ")", re.M)
+LOCAL = re.compile(r"[({](" + ID + r"(?:[ ]+" + ID + r")*)[ ]*:|\blet (" + ID + r")[ ]*[:=]")
 CODE = re.compile(r'("(?:\\.|[^"\\])*")|(--[^\n]*|//[^\n]*)')
 TICKED = re.compile(r"`[^`\n]*`")
 
@@ -37,11 +38,15 @@ def declared():
     """The names with a dash that the crates declare, and which of them are fields of records."""
     names, fields = collections.defaultdict(set), set()
     for p in files("crates/*/specs/**/*.antt") + files("crates/*/proofs/**/*.antt"):
-        if os.path.basename(p) in MADE:
+        if "/proofs/" in p and os.path.basename(p) in MADE:
             continue
         text = re.sub(r"--.*", "", read(p))
         for m in TOP.finditer(text):
             for n in m.group(1).split():
+                if "-" in n:
+                    names[n].add(p)
+        for m in LOCAL.finditer(text):
+            for n in (m.group(1) or m.group(2)).split():
                 if "-" in n:
                     names[n].add(p)
         for m in HEAD.finditer(text):
@@ -61,8 +66,8 @@ def declared():
     return names, fields
 
 
-# where the plain spelling is another thing's name: bit_and and bit_or are std's
-OTHER = {"bit-and": "bit_of_and", "bit-or": "bit_of_or"}
+# where the plain spelling is another thing's name: bit_and and bit_or are std's, FileFault is an enum of src/
+OTHER = {"bit-and": "bit_of_and", "bit-or": "bit_of_or", "File-fault": "FileHasFault"}
 
 
 def respelled(name):

@@ -13,7 +13,7 @@ use Rattle.tariff.specs.Facts.{FactsAre, FactsFault, FactsAnswer, facts_at}
 use Rattle.tariff.specs.Numbers.{Bytes}
 use Rattle.tariff.specs.declared.fault.NumberFault.{NumberFault}
 use Rattle.tariff.proofs.Strings.{only_facts}
-use Rattle.tariff_format.specs.Answers.{File-is, File-fault}
+use Rattle.tariff_format.specs.Answers.{FileIs, FileHasFault}
 use Rattle.tariff_format.specs.Encoding.{Tariff}
 use Rattle.tariff_format.specs.Faults.{the_file_fault}
 use Rattle.tariff_format.specs.Files.{file_at}
@@ -76,7 +76,7 @@ module _ (facts before after : List ℕ) (a : ℕ) where
   WithTariff t = ((f : NumberFault) × FactsFault t.width facts f × RefusedWith (number f.refusal) before after a) ⊎ ((F : Marks) × FactsAre t.width facts F × WithFacts t F)
 
   abbrev Outcome : List ℕ → Type 0
-  Outcome file = ((f : FileFault) × File-fault 1024 512 file f × RefusedWith (the_file_fault f).number before after a) ⊎ ((t : Tariff) × File-is 1024 512 file t × WithTariff t)
+  Outcome file = ((f : FileFault) × FileHasFault 1024 512 file f × RefusedWith (the_file_fault f).number before after a) ⊎ ((t : Tariff) × FileIs 1024 512 file t × WithTariff t)
 
   outcome : (file : List ℕ) → HostAnswer file facts before after a → Outcome file
   outcome file (file_refused f x r) = inl (f, x, r)
@@ -104,10 +104,10 @@ module _ (file facts before after after' : List ℕ) (a a' : ℕ) (file_bytes : 
     by_facts (inr (F, x, r)) (inl (g, y, s)) = absurd (not_both (refused g y) (taken F x))
     by_facts (inr (F, x, r)) (inr (G, y, s)) = by_output t F r (subst (WithFacts facts before after' a' t) (both_taken (taken G y) (taken F x)) s)
 
-  read : (t : Tariff) → File-is 1024 512 file t → file_at 1024 512 file ≡ Ok (t, length file)
+  read : (t : Tariff) → FileIs 1024 512 file t → file_at 1024 512 file ≡ Ok (t, length file)
   read t x = only_file 1024 512 file file_bytes (Ok (t, length file)) (x, refl)
 
-  unread : (f : FileFault) → File-fault 1024 512 file f → file_at 1024 512 file ≡ Err f
+  unread : (f : FileFault) → FileHasFault 1024 512 file f → file_at 1024 512 file ≡ Err f
   unread f x = only_file 1024 512 file file_bytes (Err f) x
 
   by_file : Outcome facts before after a file → Outcome facts before after' a' file → Same a a' after after'

@@ -13,7 +13,7 @@ use Rattle.readings.specs.declared.verdict.Verdict.{Verdict}
 use Rattle.settling.specs.Growth.{rules_of}
 use Rattle.tariff.specs.Facts.{FactsAre, FactsFault}
 use Rattle.tariff.specs.declared.fault.NumberFault.{NumberFault}
-use Rattle.tariff_format.specs.Answers.{File-is, File-fault}
+use Rattle.tariff_format.specs.Answers.{FileIs, FileHasFault}
 use Rattle.tariff_format.specs.Encoding.{Tariff}
 use Rattle.tariff_format.specs.Faults.{the_file_fault}
 use Rattle.tariff_format.specs.declared.fault.FileFault.{FileFault}
@@ -55,14 +55,14 @@ pub record RefusedWith (n : ℕ) (before after : List ℕ) (answer : ℕ) : Type
 -- the four outcomes: `before` and `after` are the output as it was and as it is
 pub data HostAnswer (file facts before after : List ℕ) (answer : ℕ) : Type 0 where
   -- the file is refused: 1 to 4 or 6
-  file_refused : (f : FileFault) → File-fault 1024 512 file f
+  file_refused : (f : FileFault) → FileHasFault 1024 512 file f
       → RefusedWith (the_file_fault f).number before after answer → HostAnswer file facts before after answer
   -- the file is that of a tariff, and the facts string is refused for its width: 1 to 4 or 6
-  facts_refused : (t : Tariff) (f : NumberFault) → File-is 1024 512 file t → FactsFault t.width facts f
+  facts_refused : (t : Tariff) (f : NumberFault) → FileIs 1024 512 file t → FactsFault t.width facts f
       → RefusedWith (number f.refusal) before after answer → HostAnswer file facts before after answer
   -- file and facts are right, and the output has fewer bytes than there are marks: 13
-  output_short : (t : Tariff) (F : Marks) → File-is 1024 512 file t → FactsAre t.width facts F
+  output_short : (t : Tariff) (F : Marks) → FileIs 1024 512 file t → FactsAre t.width facts F
       → length before < t.width → RefusedWith 13 before after answer → HostAnswer file facts before after answer
   -- all are right
-  settled : (t : Tariff) (F : Marks) → File-is 1024 512 file t → FactsAre t.width facts F
+  settled : (t : Tariff) (F : Marks) → FileIs 1024 512 file t → FactsAre t.width facts F
       → t.width ≤ length before → Settled t F before after answer → HostAnswer file facts before after answer

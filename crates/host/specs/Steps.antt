@@ -9,7 +9,7 @@ use Rattle.readings.specs.declared.verdict.Verdict.{Verdict}
 use Rattle.settling.specs.declared.settle.Judged.{Judged}
 use Rattle.tariff.specs.Facts.{FactsAre, FactsFault}
 use Rattle.tariff.specs.declared.fault.NumberFault.{NumberFault}
-use Rattle.tariff_format.specs.Answers.{File-is, File-fault}
+use Rattle.tariff_format.specs.Answers.{FileIs, FileHasFault}
 use Rattle.tariff_format.specs.Encoding.{Tariff}
 use Rattle.tariff_format.specs.declared.fault.FileFault.{FileFault}
 use Rattle.host.specs.declared.refused.Refused.{Refused}
@@ -29,12 +29,12 @@ pub record HasRecords (b : Tables) : Type 0 where
 
 -- the file is that of the tariff in the tables
 pub record InTables (bytes : List ℕ) (b : Tables) : Type 0 where
-  pub file : File-is 1024 512 bytes (tariff_in b)
+  pub file : FileIs 1024 512 bytes (tariff_in b)
   pub room : HasRecords b
 
 abbrev pub Loaded : List ℕ → Tables → {A : Type 0} → Result A FileFault → Type 0
 Loaded file b (Ok a) = InTables file b
-Loaded file b (Err f) = File-fault 1024 512 file f
+Loaded file b (Err f) = FileHasFault 1024 512 file f
 
 -- the facts string is that of a set of the width w
 pub record IsFacts (w : ℕ) (facts : List ℕ) : Type 0 where
@@ -49,7 +49,7 @@ FactsFound w facts (Err f) = FactsFault w facts f
 -- the tests of the file, the facts string and an output with room for so many bytes: the set of the facts, or the first fault
 abbrev pub Tested : (file facts : List ℕ) → ℕ → Tables → Result MarkSet Refused → Type 0
 Tested file facts room b (Ok s) = InTables file b × (s.width ≡ b.counts.width) × FactsAre b.counts.width facts (marks_of s) × (b.counts.width ≤ room)
-Tested file facts room b (Err (File f)) = File-fault 1024 512 file f
+Tested file facts room b (Err (File f)) = FileHasFault 1024 512 file f
 Tested file facts room b (Err (Facts f)) = InTables file b × FactsFault b.counts.width facts f
 Tested file facts room b (Err Output) = InTables file b × IsFacts b.counts.width facts × (room < b.counts.width)
 

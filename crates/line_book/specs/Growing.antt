@@ -24,7 +24,7 @@ use Rattle.line_book.specs.Theorems.{HasHeads, GrownSet}
 use Rattle.line_book.specs.Giving.{from_givings, to_givings, denial_stands, stands_denial}
 use Rattle.line_book.specs.Seeing.{HeadsBelow, seen_heads, heads_seen, denial_seen, seen_denial}
 
-module _ (w : ℕ) (ls : List TermLine) (below-w : HeadsBelow w ls) where
+module _ (w : ℕ) (ls : List TermLine) (below_w : HeadsBelow w ls) where
   -- the heads of the lines are those of their rules
   rule_heads : (Z : Marks) → HasHeads ls Z → (r : Rule) → Passing (givings ls) (λ r. true) r → AllIn r.conditions Z → r.head ∈ Z
   rule_heads Z zh r p a =
@@ -36,7 +36,7 @@ module _ (w : ℕ) (ls : List TermLine) (below-w : HeadsBelow w ls) where
     filling =
         subst (λ (A : Marks). LeastClosed (bare w) A (Passing (givings ls) (λ r. true)) (grown w ls S)) (among_listed w S s)
         (filled_least (bare w) (bare_lawful w) (givings ls)
-        (λ r i. let f = from_givings ls r i in lt→ltb r.head w (below-w f.line r.head f.among_lines f.head))
+        (λ r i. let f = from_givings ls r i in lt→ltb r.head w (below_w f.line r.head f.among_lines f.head))
         (λ r. true) (listed w S) (λ m t. s m (equal_within (among_listed w S s) m t)))
 
     pub grown_is : GrownSet w ls S (grown w ls S)
@@ -98,11 +98,11 @@ module _ (w : ℕ) (ls : List TermLine) (S X : Marks) (way : OnTheWay ls S X) wh
         under = λ Z sz zh. swept_least w vs X Z (way.under Z sz zh) (seen_heads w ls Z zh);
       }
 
-  module _ (below-w : HeadsBelow w ls) (s : OfWidth w S) (x : OfWidth w X) (rest : swept w vs X ≡ X) where
+  module _ (below_w : HeadsBelow w ls) (s : OfWidth w S) (x : OfWidth w X) (rest : swept w vs X ≡ X) where
     pub at_end : X ≡ grown w ls S
     at_end =
-        grown_once w ls below-w S s X
-        (record { of_width = x; around = way.around; heads = heads_seen w ls X below-w (swept_rests w vs X rest); least = λ Z z sz zh. way.under Z sz zh })
+        grown_once w ls below_w S s X
+        (record { of_width = x; around = way.around; heads = heads_seen w ls X below_w (swept_rests w vs X rest); least = λ Z z sz zh. way.under Z sz zh })
 
     pub stood_end : stood w vs X ≡ some_stands (denials ls) X
     stood_end =

@@ -139,9 +139,9 @@ module _ (B : Book) (law : Lawful B) (lines : List FareLine) (facts at : MarkSet
   head_there all f h r (line i) =
       let from = map_from rule_of lines r i in
       let l = from.0 in
-      let law-of = all_in_list (LawfulFare B.width) lines goes.lawful.each l from.1 in
+      let law_of = all_in_list (LawfulFare B.width) lines goes.lawful.each l from.1 in
       subst (λ (x : Rule). x.head ∈ all) (sym from.2)
-      (all_in_list (HeadIn facts.width all) lines h l from.1 (let e = goes.width in let k = law-of.head in omega arith))
+      (all_in_list (HeadIn facts.width all) lines h l from.1 (let e = goes.width in let k = law_of.head in omega arith))
 
   -- so it is enough to try the other heads
   pub denies_tried : (all : Marks) (D : MarkSet) → marks_of facts ⊆ all → All (HeadIn facts.width all) lines → (Clashes B S → ⊥)

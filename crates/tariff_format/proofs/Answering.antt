@@ -16,7 +16,7 @@ use Rattle.tariff_format.specs.declared.fault.FileFault.TheVariants.{Number, Lin
 use Rattle.tariff_format.specs.declared.fault.LineFault.{LineFault}
 use Rattle.tariff_format.specs.declared.fault.Section.{Section}
 use Rattle.tariff_format.specs.declared.fault.Section.TheVariants.{Fare, Term}
-use Rattle.tariff_format.specs.Answers.{file-fault, Fails-at, Taken, File-fault, at-number, few-fares, few-terms, left_over, File-answer}
+use Rattle.tariff_format.specs.Answers.{file_fault, FailsAt, Taken, FileHasFault, at_number, few_fares, few_terms, left_over, FileAnswer}
 use Rattle.tariff_format.specs.Encoding.{Tariff, fare_bytes, term_bytes, file_bytes}
 use Rattle.tariff_format.specs.Faults.{line_fault, outside_lines}
 use Rattle.tariff_format.specs.Files.{opening_at, sections_at, file_at}
@@ -44,21 +44,21 @@ module _ (m n : ℕ) (bs : List ℕ) (bytes : Bytes bs) where
   -- behind an opening that ends at p
   module _ (h : Counts) (p : ℕ) (room : HasRoom m n h) (far : p ≡ length (opening_bytes h)) (front : bs ≡ opening_bytes h ++ drop p bs) where
     -- a number in a line is refused
-    line_refused : (place : FilePlace) (tail : List ℕ) → opening_bytes h ++ tail ≡ file_before place → FileReached m n place → (e : FileFault) (before : List ℕ) (at : Limits) (up : NumberFault → FileFault) (why : Refusal) (rest : List ℕ) → before ≡ tail → at ≡ file_limits place → up ≡ file-fault (place_line place) → drop p bs ≡ before ++ rest → Fails-at at rest why → e ≡ up (fault why (p + length before)) → File-fault m n bs e
+    line_refused : (place : FilePlace) (tail : List ℕ) → opening_bytes h ++ tail ≡ file_before place → FileReached m n place → (e : FileFault) (before : List ℕ) (at : Limits) (up : NumberFault → FileFault) (why : Refusal) (rest : List ℕ) → before ≡ tail → at ≡ file_limits place → up ≡ file_fault (place_line place) → drop p bs ≡ before ++ rest → FailsAt at rest why → e ≡ up (fault why (p + length before)) → FileHasFault m n bs e
     line_refused place tail shape reached e before at up why rest cut within same there test is =
         let whole : opening_bytes h ++ before ≡ file_before place = ap (λ l. opening_bytes h ++ l) cut ∙ shape in
         let byte : p + length before ≡ length (file_before place) = omega (arith, far, length-append (opening_bytes h) before, ap length whole) in
-        at-number (record {
+        at_number (record {
           place = place;
           reached = reached;
           rest = rest;
           front = front ∙ ap (λ l. opening_bytes h ++ l) there ∙ sym (append_assoc (opening_bytes h) before rest) ∙ ap (λ l. l ++ rest) whole;
           why = why;
-          test = subst (λ (l : Limits). Fails-at l rest why) within test;
+          test = subst (λ (l : Limits). FailsAt l rest why) within test;
           is = is ∙ (λ i. same i (fault why (byte i)));
         })
 
-    by_stop : (e : FileFault) (before : List ℕ) (at : Limits) (up : NumberFault → FileFault) (why : Refusal) (rest : List ℕ) → lines_stops bs bytes h room.right before at up → drop p bs ≡ before ++ rest → Fails-at at rest why → e ≡ up (fault why (p + length before)) → File-fault m n bs e
+    by_stop : (e : FileFault) (before : List ℕ) (at : Limits) (up : NumberFault → FileFault) (why : Refusal) (rest : List ℕ) → lines_stops bs bytes h room.right before at up → drop p bs ≡ before ++ rest → FailsAt at rest why → e ≡ up (fault why (p + length before)) → FileHasFault m n bs e
     by_stop e before at up why rest (in_first s) there test is =
         let row = s.stop in
         let line = row.stop.stop in
@@ -110,9 +110,9 @@ module _ (m n : ℕ) (bs : List ℕ) (bytes : Bytes bs) where
       file_far : q ≡ length (file_bytes t)
       file_far = omega (arith, lines.place, far, length-append (opening_bytes h) (lines_bytes t), ap length whole)
 
-      by_end : File-answer m n bs (close t q)
+      by_end : FileAnswer m n bs (close t q)
       by_end =
-          cond_both (ltb q (length bs)) _ _ (λ r. File-answer m n bs (outside_lines r))
+          cond_both (ltb q (length bs)) _ _ (λ r. FileAnswer m n bs (outside_lines r))
           (λ e.
           let some : 0 < length (drop q bs) = omega (arith, ltb-true q (length bs) e, length-drop q bs) in
           left_over t (drop q bs) taken file_front some (ap (λ k. Number (fault BytesRemain k)) file_far))
@@ -120,15 +120,15 @@ module _ (m n : ℕ) (bs : List ℕ) (bytes : Bytes bs) where
           let all : bs ≡ file_bytes t = file_front ∙ ap (λ l. file_bytes t ++ l) (drop_all q bs (ltb-false q (length bs) e)) ∙ append-nil (file_bytes t) in
           (record { taken = taken; bytes = all }, file_far ∙ ap length (sym all)))
 
-    by_lines : (r : Result (Tariff × ℕ) FileFault) → Says bs lines_bytes (lines_ok bs bytes h room.right) (lines_stops bs bytes h room.right) p r → File-answer m n bs (and_then r close)
+    by_lines : (r : Result (Tariff × ℕ) FileFault) → Says bs lines_bytes (lines_ok bs bytes h room.right) (lines_stops bs bytes h room.right) p r → FileAnswer m n bs (and_then r close)
     by_lines (Ok x) lines = by_end x.0 x.1 lines
     by_lines (Err e) r = by_stop e r.before r.at r.up r.why r.rest r.stop r.front r.test r.is
 
-  by_opening : (r : Result (Counts × ℕ) NumberFault) → OpeningSays m n bs bytes r → File-answer m n bs (and_then (and_then (outside_lines r) (sections_at bs)) close)
+  by_opening : (r : Result (Counts × ℕ) NumberFault) → OpeningSays m n bs bytes r → FileAnswer m n bs (and_then (and_then (outside_lines r) (sections_at bs)) close)
   by_opening (Ok x) o = by_lines x.0 x.1 o.0 o.1 o.2 (sections_at bs x.0 x.1) ((sections_exact bs bytes x.0 o.0.right).says x.1)
   by_opening (Err e) o = o
 
-  pub right_file : File-answer m n bs (file_at m n bs)
+  pub right_file : FileAnswer m n bs (file_at m n bs)
   right_file = by_opening (opening_at m n bs 0) (opening_says m n bs bytes)
 
   -- an opening that is refused
@@ -141,7 +141,7 @@ module _ (m n : ℕ) (bs : List ℕ) (bytes : Bytes bs) where
       (ap (λ r. and_then (and_then (outside_lines r) (sections_at bs)) close) (opening_read m n bs bytes h rest room front), after m n bs bytes (opening_bytes h) rest front)
 
   -- lines that are refused
-  line_stops : (h : Counts) (tail rest : List ℕ) (at : Limits) (up : NumberFault → FileFault) (why : Refusal) (room : HasRoom m n h) → bs ≡ (opening_bytes h ++ tail) ++ rest → lines_stops bs bytes h room.right tail at up → Fails-at at rest why → file_at m n bs ≡ Err (up (fault why (length (opening_bytes h ++ tail))))
+  line_stops : (h : Counts) (tail rest : List ℕ) (at : Limits) (up : NumberFault → FileFault) (why : Refusal) (room : HasRoom m n h) → bs ≡ (opening_bytes h ++ tail) ++ rest → lines_stops bs bytes h room.right tail at up → FailsAt at rest why → file_at m n bs ≡ Err (up (fault why (length (opening_bytes h ++ tail))))
   line_stops h tail rest at up why room front stop test =
       let q : ℕ = length (opening_bytes h) in
       let start = opening_taken h (tail ++ rest) room (front ∙ append_assoc (opening_bytes h) tail rest) in
@@ -149,7 +149,7 @@ module _ (m n : ℕ) (bs : List ℕ) (bytes : Bytes bs) where
       ∙ ap (λ r. and_then r close) ((sections_exact bs bytes h room.right).refuses q _ (record { before = tail; at = at; up = up; why = why; rest = rest; stop = stop; front = start.1; test = test; is = refl }))
       ∙ ap (λ k. Err (up (fault why k))) (sym (length-append (opening_bytes h) tail))
 
-  only_number : (place : FilePlace) (rest : List ℕ) (why : Refusal) → FileReached m n place → bs ≡ file_before place ++ rest → Fails-at (file_limits place) rest why → file_at m n bs ≡ Err (file-fault (place_line place) (fault why (length (file_before place))))
+  only_number : (place : FilePlace) (rest : List ℕ) (why : Refusal) → FileReached m n place → bs ≡ file_before place ++ rest → FailsAt (file_limits place) rest why → file_at m n bs ≡ Err (file_fault (place_line place) (fault why (length (file_before place))))
   only_number the_width rest why reached front test = opening_refused _ (width_refused m n bs bytes rest why front test)
   only_number (the_fares w) rest why reached front test = opening_refused _ (fares_refused m n bs bytes w rest why reached front test)
   only_number (the_terms w f) rest why reached front test = opening_refused _ (terms_refused m n bs bytes w f rest why reached.0 reached.1 front test)
@@ -206,15 +206,15 @@ module _ (m n : ℕ) (bs : List ℕ) (bytes : Bytes bs) where
       ∙ ap (λ r. and_then r close) ((sections_exact bs bytes h room.right).reads t q rest ((fares, refl), ((terms, refl), refl)) start.1)
       ∙ ap (close t) far
 
-  only_fault : (f : FileFault) → File-fault m n bs f → file_at m n bs ≡ Err f
-  only_fault f (at-number r) = only_number r.place r.rest r.why r.reached r.front r.test ∙ ap Err (sym r.is)
-  only_fault f (few-fares h opened short is) = opening_refused _ (fares_short m n bs bytes h opened short) ∙ ap Err (sym is)
-  only_fault f (few-terms h opened enough short is) = opening_refused _ (terms_short m n bs bytes h opened enough short) ∙ ap Err (sym is)
+  only_fault : (f : FileFault) → FileHasFault m n bs f → file_at m n bs ≡ Err f
+  only_fault f (at_number r) = only_number r.place r.rest r.why r.reached r.front r.test ∙ ap Err (sym r.is)
+  only_fault f (few_fares h opened short is) = opening_refused _ (fares_short m n bs bytes h opened short) ∙ ap Err (sym is)
+  only_fault f (few_terms h opened enough short is) = opening_refused _ (terms_short m n bs bytes h opened enough short) ∙ ap Err (sym is)
   only_fault f (left_over t rest taken front some is) =
       let more : length (file_bytes t) < length bs = omega (arith, ap length front, length-append (file_bytes t) rest) in
       whole_read t rest taken front ∙ ap outside_lines (cond-true (ltb (length (file_bytes t)) (length bs)) _ _ (lt-ltb (length (file_bytes t)) (length bs) more)) ∙ ap Err (sym is)
 
-  pub only_file : (r : Result (Tariff × ℕ) FileFault) → File-answer m n bs r → file_at m n bs ≡ r
+  pub only_file : (r : Result (Tariff × ℕ) FileFault) → FileAnswer m n bs r → file_at m n bs ≡ r
   only_file (Ok x) h =
       let t : Tariff = x.0 in
       let all : length bs ≤ length (file_bytes t) = omega (arith, ap length h.0.bytes) in

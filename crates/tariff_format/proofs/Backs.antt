@@ -14,7 +14,7 @@ use Rattle.lines.specs.Records.{used, the_kind}
 use Rattle.tariff.specs.Numbers.{Bytes, encode}
 use Rattle.tariff.specs.Writings.{Written}
 use Rattle.tariff_format.specs.declared.fault.FileFault.{FileFault}
-use Rattle.tariff_format.specs.Answers.{Taken, File-answer}
+use Rattle.tariff_format.specs.Answers.{Taken, FileAnswer}
 use Rattle.tariff_format.specs.Encoding.{Tariff, LawfulTariff, list_bytes, fare_bytes, head_bytes, term_bytes, file_bytes}
 use Rattle.tariff_format.specs.Files.{file_at}
 use Rattle.tariff_format.specs.Laws.{Proper}
@@ -106,4 +106,4 @@ written_read m n t out after k proper enough room h =
 
 -- what was read is written
 pub read_written : (m n : ℕ) (bs : List ℕ) (t : Tariff) (q : ℕ) (out after : List ℕ) (k : ℕ) → Bytes bs → file_at m n bs ≡ Ok (t, q) → Written out 0 (file_bytes t) after k → take k after ≡ bs
-read_written m n bs t q out after k bytes e h = written_first out (file_bytes t) after k h ∙ sym (subst (File-answer m n bs) e (right_file m n bs bytes)).0.bytes
+read_written m n bs t q out after k bytes e h = written_first out (file_bytes t) after k h ∙ sym (subst (FileAnswer m n bs) e (right_file m n bs bytes)).0.bytes

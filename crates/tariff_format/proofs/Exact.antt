@@ -6,7 +6,7 @@ use Rattle.std.proofs.lemmas.List.{append-nil, drop_at, drop-drop}
 use Rattle.marks.specs.declared.refusal.Refusal.{Refusal}
 use Rattle.tariff.specs.declared.fault.NumberFault.{NumberFault}
 use Rattle.tariff.specs.Readings.{and_then, mapped, many, fault}
-use Rattle.tariff_format.specs.Answers.{Fails-at}
+use Rattle.tariff_format.specs.Answers.{FailsAt}
 use Rattle.tariff_format.specs.Places.{Limits}
 
 -- Where a reading may be refused: the bytes before such a place, the limits of the number there, and what its fault is handed up as.
@@ -65,7 +65,7 @@ module _ (bs : List ℕ) where
     pub rest : List ℕ
     pub stop : stops before at up
     pub front : drop p bs ≡ before ++ rest
-    pub test : Fails-at at rest why
+    pub test : FailsAt at rest why
     pub is : e ≡ up (fault why (p + length before))
 
   module _ {E : Type 0} (stops stops' : Stops E) (e : E) where

@@ -13,7 +13,7 @@ use Rattle.tariff.specs.Numbers.{Bytes, encode}
 use Rattle.tariff.specs.Readings.{and_then, mapped, fault, number_at}
 use Rattle.tariff.proofs.Answering.{right_answer, only_answer}
 use Rattle.tariff.proofs.Listing as listing
-use Rattle.tariff_format.specs.Answers.{Fails-at}
+use Rattle.tariff_format.specs.Answers.{FailsAt}
 use Rattle.tariff_format.specs.Encoding.{list_bytes}
 use Rattle.tariff_format.specs.Lines.{held, list_at}
 use Rattle.tariff_format.specs.Places.{Limits, from_to, ListPlace, the_count, mark_of, list_before, list_limits, ListReached}
@@ -74,7 +74,7 @@ module _ (bs : List ℕ) (bytes : Bytes bs) where
         let s = r.stop in
         let none : drop p bs ≡ r.rest = r.front ∙ ap (λ l. l ++ r.rest) s.none in
         let byte : p ≡ p + length r.before = omega (arith, ap length s.none) in
-        only_answer low high least bs p (Err (fault r.why p)) (record { test = subst (λ (l : List ℕ). Fails low high least l r.why) (sym none) (subst (λ (a : Limits). Fails-at a r.rest r.why) s.within r.test); start = refl })
+        only_answer low high least bs p (Err (fault r.why p)) (record { test = subst (λ (l : List ℕ). Fails low high least l r.why) (sym none) (subst (λ (a : Limits). FailsAt a r.rest r.why) s.within r.test); start = refl })
         ∙ ap (λ n. Err (fault r.why n)) byte
         ∙ ap Err (sym (r.is ∙ ap (λ (u : NumberFault → NumberFault). u (fault r.why (p + length r.before))) s.same));
   }

@@ -11,7 +11,7 @@ use Rattle.tariff.specs.Readings.{and_then, fault, number_at}
 use Rattle.tariff_format.specs.declared.counts.Counts.{Counts}
 use Rattle.tariff_format.specs.declared.fault.FileFault.{FileFault}
 use Rattle.tariff_format.specs.declared.fault.FileFault.TheVariants.{Number}
-use Rattle.tariff_format.specs.Answers.{file-fault, Fails-at, Opened, File-fault, at-number, few-fares, few-terms}
+use Rattle.tariff_format.specs.Answers.{file_fault, FailsAt, Opened, FileHasFault, at_number, few_fares, few_terms}
 use Rattle.tariff_format.specs.Files.{room_for, opening_at}
 use Rattle.tariff_format.specs.Places.{Limits, from_to, opening_bytes, RightCounts, HasRoom, FilePlace, the_width, the_fares, the_terms, file_before, file_limits, place_line, FileReached}
 use Rattle.tariff_format.proofs.Exact.{Read, Refused, Says}
@@ -27,7 +27,7 @@ In low high n = Within low high n × (0 ≤ n)
 module _ (m n : ℕ) (bs : List ℕ) (bytes : Bytes bs) where
   abbrev pub OpeningSays : Result (Counts × ℕ) NumberFault → Type 0
   OpeningSays (Ok x) = HasRoom m n x.0 × (x.1 ≡ length (opening_bytes x.0)) × (bs ≡ opening_bytes x.0 ++ drop x.1 bs)
-  OpeningSays (Err e) = File-fault m n bs (Number e)
+  OpeningSays (Err e) = FileHasFault m n bs (Number e)
 
   -- what follows the width, and what follows the fare count
   abbrev behind_fares : ℕ → ℕ → ℕ → ℕ → Result (Counts × ℕ) NumberFault
@@ -37,17 +37,17 @@ module _ (m n : ℕ) (bs : List ℕ) (bytes : Bytes bs) where
   behind_width w a = and_then (number_at 0 1024 0 bs a) (behind_fares w a)
 
   -- a number outside the lines is refused
-  number_refused : (place : FilePlace) (p : ℕ) → FileReached m n place → file-fault (place_line place) ≡ Number → p ≡ length (file_before place) → bs ≡ file_before place ++ drop p bs → (e : NumberFault) → Refused bs (Starts (file_limits place)) p e → File-fault m n bs (Number e)
+  number_refused : (place : FilePlace) (p : ℕ) → FileReached m n place → file_fault (place_line place) ≡ Number → p ≡ length (file_before place) → bs ≡ file_before place ++ drop p bs → (e : NumberFault) → Refused bs (Starts (file_limits place)) p e → FileHasFault m n bs (Number e)
   number_refused place p reached outside far front e r =
       let s = r.stop in
       let byte : p + length r.before ≡ length (file_before place) = omega (arith, far, ap length s.none) in
-      at-number (record {
+      at_number (record {
         place = place;
         reached = reached;
         rest = r.rest;
         front = front ∙ ap (λ l. file_before place ++ l) (r.front ∙ ap (λ l. l ++ r.rest) s.none);
         why = r.why;
-        test = subst (λ (at : Limits). Fails-at at r.rest r.why) s.within r.test;
+        test = subst (λ (at : Limits). FailsAt at r.rest r.why) s.within r.test;
         is = ap Number (r.is ∙ ap (λ (u : NumberFault → NumberFault). u (fault r.why (p + length r.before))) s.same ∙ ap (fault r.why) byte)
             ∙ ap (λ (u : NumberFault → FileFault). u (fault r.why (length (file_before place)))) (sym outside);
       })
@@ -56,9 +56,9 @@ module _ (m n : ℕ) (bs : List ℕ) (bytes : Bytes bs) where
   by_room w a f b t q right ea eb eq front =
       let opened : Opened bs (counts w f t) = record { right = right; rest = drop q bs; front = front } in
       cond_both (ltb m f) _ _ OpeningSays
-      (λ l. few-fares (counts w f t) opened (ltb-true m f l) (ap (λ k. Number (fault FewRecords k)) ea)) (λ l.
+      (λ l. few_fares (counts w f t) opened (ltb-true m f l) (ap (λ k. Number (fault FewRecords k)) ea)) (λ l.
       cond_both (ltb n t) _ _ OpeningSays
-      (λ k. few-terms (counts w f t) opened (ltb-false m f l) (ltb-true n t k) (ap (λ k. Number (fault FewRecords k)) eb))
+      (λ k. few_terms (counts w f t) opened (ltb-false m f l) (ltb-true n t k) (ap (λ k. Number (fault FewRecords k)) eb))
       (λ k. (record { right = right; fares = ltb-false m f l; terms = ltb-false n t k }, eq, front)))
 
   module _ (w a : ℕ) (one : Read bs encode (In 1 512) 0 w a) where
@@ -130,20 +130,20 @@ module _ (m n : ℕ) (bs : List ℕ) (bytes : Bytes bs) where
       ∙ cond-false (ltb n h.terms) _ _ (le-ltb n h.terms room.terms)
 
   -- a number that is refused outside the lines
-  refused_at : (low high p : ℕ) (rest : List ℕ) (why : Refusal) → high ≤ 65535 → drop p bs ≡ rest → Fails-at (from_to low high) rest why → number_at low high 0 bs p ≡ Err (fault why p)
+  refused_at : (low high p : ℕ) (rest : List ℕ) (why : Refusal) → high ≤ 65535 → drop p bs ≡ rest → FailsAt (from_to low high) rest why → number_at low high 0 bs p ≡ Err (fault why p)
   refused_at low high p rest why small front test =
       (number_exact bs bytes low high 0 small).refuses p (fault why p)
       (record { before = []; at = from_to low high; up = as_is; why = why; rest = rest; stop = record { none = refl; within = refl; same = refl }; front = front; test = test; is = ap (fault why) (omega arith) })
 
-  pub width_refused : (rest : List ℕ) (why : Refusal) → bs ≡ rest → Fails-at (from_to 1 512) rest why → opening_at m n bs 0 ≡ Err (fault why 0)
+  pub width_refused : (rest : List ℕ) (why : Refusal) → bs ≡ rest → FailsAt (from_to 1 512) rest why → opening_at m n bs 0 ≡ Err (fault why 0)
   width_refused rest why front test = ap (λ r. and_then r behind_width) (refused_at 1 512 0 rest why (omega arith) front test)
 
-  pub fares_refused : (w : ℕ) (rest : List ℕ) (why : Refusal) → Within 1 512 w → bs ≡ encode w ++ rest → Fails-at (from_to 0 1024) rest why → opening_at m n bs 0 ≡ Err (fault why (length (encode w)))
+  pub fares_refused : (w : ℕ) (rest : List ℕ) (why : Refusal) → Within 1 512 w → bs ≡ encode w ++ rest → FailsAt (from_to 0 1024) rest why → opening_at m n bs 0 ≡ Err (fault why (length (encode w)))
   fares_refused w rest why wide front test =
       let one = width_read w rest wide front in
       one.0 ∙ ap (λ r. and_then r (behind_fares w (length (encode w)))) (refused_at 0 1024 (length (encode w)) rest why (omega arith) one.1 test)
 
-  pub terms_refused : (w f : ℕ) (rest : List ℕ) (why : Refusal) → Within 1 512 w → Within 0 1024 f → bs ≡ (encode w ++ encode f) ++ rest → Fails-at (from_to 0 512) rest why → opening_at m n bs 0 ≡ Err (fault why (length (encode w ++ encode f)))
+  pub terms_refused : (w f : ℕ) (rest : List ℕ) (why : Refusal) → Within 1 512 w → Within 0 1024 f → bs ≡ (encode w ++ encode f) ++ rest → FailsAt (from_to 0 512) rest why → opening_at m n bs 0 ≡ Err (fault why (length (encode w ++ encode f)))
   terms_refused w f rest why wide many front test =
       let two = fares_read w f rest wide many front in
       two.0 ∙ ap (λ r. and_then r (λ t q. room_for m n (length (encode w)) (length (encode w ++ encode f)) (counts w f t) q)) (refused_at 0 512 (length (encode w ++ encode f)) rest why (omega arith) two.1 test)

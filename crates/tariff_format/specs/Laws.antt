@@ -3,7 +3,7 @@ use Rattle.std.specs.Prelude.{◌≡◌, ℕ, ◌≤◌, ◌↔◌, List, length
 use Rattle.tariff.specs.Numbers.{Bytes}
 use Rattle.tariff.specs.Writings.{Written}
 use Rattle.tariff_format.specs.declared.fault.FileFault.{FileFault}
-use Rattle.tariff_format.specs.Answers.{File-answer}
+use Rattle.tariff_format.specs.Answers.{FileAnswer}
 use Rattle.tariff_format.specs.Encoding.{Tariff, LawfulTariff, file_bytes}
 use Rattle.tariff_format.specs.Files.{file_at}
 use Rattle.tariff_format.specs.Tariffs.{WholeTariff, SameTariff}
@@ -17,7 +17,7 @@ pub record Proper (t : Tariff) : Type 0 where
 -- tariff files, read by a caller with m fare and n term records
 pub record FilesStand : Type 0 where
   -- a reading gives exactly what is right: the file of a tariff is taken as that tariff, other bytes are refused as the words say
-  pub answer : (m n : ℕ) (bs : List ℕ) (r : Result (Tariff × ℕ) FileFault) → Bytes bs → (file_at m n bs ≡ r) ↔ File-answer m n bs r
+  pub answer : (m n : ℕ) (bs : List ℕ) (r : Result (Tariff × ℕ) FileFault) → Bytes bs → (file_at m n bs ≡ r) ↔ FileAnswer m n bs r
   -- the file of every proper tariff is taken, where there is room, and gives it back with 0 in its unused places
   pub takes : (m n : ℕ) (t : Tariff) → Proper t → length t.fares ≤ m → length t.terms ≤ n → file_at m n (file_bytes t) ≡ Ok (tidy_tariff t, length (file_bytes t))
   -- which is the same tariff in all used places

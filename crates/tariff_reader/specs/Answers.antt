@@ -5,7 +5,7 @@ use Rattle.lines.specs.declared.term.TermLine.{TermLine}
 use Rattle.tariff.specs.Writings.{Written}
 use Rattle.tariff_format.specs.declared.counts.Counts.{Counts}
 use Rattle.tariff_format.specs.declared.fault.FileFault.{FileFault}
-use Rattle.tariff_format.specs.Answers.{File-answer}
+use Rattle.tariff_format.specs.Answers.{FileAnswer}
 use Rattle.tariff_format.specs.Encoding.{Tariff, file_bytes}
 use Rattle.tariff_format.specs.Files.{file_at}
 use Rattle.tariff_format.specs.Laws.{Proper}
@@ -41,18 +41,18 @@ abbrev pub written : {L : Type 0} → List L → List L → List L
 written ls old = ls ++ drop (length ls) old
 
 -- the caller's records behind the call: where the file is refused, all stay
-abbrev pub fare-records : Result (Tariff × ℕ) FileFault → List FareLine → List FareLine
-fare-records (Ok x) old = written x.0.fares old
-fare-records (Err f) old = old
+abbrev pub fare_records : Result (Tariff × ℕ) FileFault → List FareLine → List FareLine
+fare_records (Ok x) old = written x.0.fares old
+fare_records (Err f) old = old
 
-abbrev pub term-records : Result (Tariff × ℕ) FileFault → List TermLine → List TermLine
-term-records (Ok x) old = written x.0.terms old
-term-records (Err f) old = old
+abbrev pub term_records : Result (Tariff × ℕ) FileFault → List TermLine → List TermLine
+term_records (Ok x) old = written x.0.terms old
+term_records (Err f) old = old
 
 -- the reading of the bytes is right, for a caller with m fare and n term records
-pub record Right-reading (m n : ℕ) (bs : List ℕ) : Type 0 where
+pub record RightReading (m n : ℕ) (bs : List ℕ) : Type 0 where
   -- it gives exactly what is right to answer in words
-  pub answer : (x : Result (Tariff × ℕ) FileFault) → (file_at m n bs ≡ x) ↔ File-answer m n bs x
+  pub answer : (x : Result (Tariff × ℕ) FileFault) → (file_at m n bs ≡ x) ↔ FileAnswer m n bs x
   -- if they are the file of a proper tariff for which there is room, it gives that tariff back, with 0 in its unused places
   pub back : (t : Tariff) → Proper t → length t.fares ≤ m → length t.terms ≤ n → bs ≡ file_bytes t → (file_at m n bs ≡ Ok (tidy_tariff t, length bs)) × SameTariff t (tidy_tariff t)
   -- what it gives is written as the same bytes

@@ -1,7 +1,7 @@
 // The two walks over a file.
 ghost use Rattle.std.specs.Prelude.{◌≡◌, length};
 ghost use Rattle.tariff_format.specs.Files.{file_at};
-ghost use Rattle.tariff_reader.specs.Answers.{Accepted, Tested, answer, fare-records, term-records, Right-reading};
+ghost use Rattle.tariff_reader.specs.Answers.{Accepted, Tested, answer, fare_records, term_records, RightReading};
 
 use crate::opening::read_opening;
 use crate::section::{fill, skim};
@@ -34,7 +34,7 @@ fn scan(bytes: &[u8], fares: usize, terms: usize) -> Result<Counts, FileFault>
 // The same, with what its answer means.
 pub(crate) fn check(bytes: &[u8], fares: usize, terms: usize) -> Result<Counts, FileFault>
     ensures value { Tested (file_at fares terms bytes.now) result }
-    ensures says { Right-reading fares terms bytes.now }
+    ensures says { RightReading fares terms bytes.now }
 {
     scan(bytes, fares, terms)
 }
@@ -47,8 +47,8 @@ pub(crate) fn load(
 ) -> Result<Counts, FileFault>
     requires { Accepted (file_at (length fares.old) (length terms.old) bytes.now) }
     ensures value { result ≡ answer (file_at (length fares.old) (length terms.old) bytes.now) }
-    ensures fares { fares.new ≡ fare-records (file_at (length fares.old) (length terms.old) bytes.now) fares.old }
-    ensures terms { terms.new ≡ term-records (file_at (length fares.old) (length terms.old) bytes.now) terms.old }
+    ensures fares { fares.new ≡ fare_records (file_at (length fares.old) (length terms.old) bytes.now) fares.old }
+    ensures terms { terms.new ≡ term_records (file_at (length fares.old) (length terms.old) bytes.now) terms.old }
 {
     let mut reader = Reader::new(bytes);
     let counts = read_opening(&mut reader, fares.len(), terms.len())?;

@@ -1,7 +1,7 @@
 // The calls that read a tariff file.
 ghost use Rattle.std.specs.Prelude.{◌≡◌, length};
 ghost use Rattle.tariff_format.specs.Files.{file_at};
-ghost use Rattle.tariff_reader.specs.Answers.{answer, fare-records, term-records, Right-reading};
+ghost use Rattle.tariff_reader.specs.Answers.{answer, fare_records, term_records, RightReading};
 
 use crate::file::{check, load};
 use lines::fare::FareLine;
@@ -17,9 +17,9 @@ pub fn read_tariff(
     terms: &mut [TermLine],
 ) -> Result<Counts, FileFault>
     ensures value { result ≡ answer (file_at (length fares.old) (length terms.old) bytes.now) }
-    ensures fares { fares.new ≡ fare-records (file_at (length fares.old) (length terms.old) bytes.now) fares.old }
-    ensures terms { terms.new ≡ term-records (file_at (length fares.old) (length terms.old) bytes.now) terms.old }
-    ensures says { Right-reading (length fares.old) (length terms.old) bytes.now }
+    ensures fares { fares.new ≡ fare_records (file_at (length fares.old) (length terms.old) bytes.now) fares.old }
+    ensures terms { terms.new ≡ term_records (file_at (length fares.old) (length terms.old) bytes.now) terms.old }
+    ensures says { RightReading (length fares.old) (length terms.old) bytes.now }
 {
     check(bytes, fares.len(), terms.len())?;
     load(bytes, fares, terms)
@@ -28,7 +28,7 @@ pub fn read_tariff(
 // Whether the bytes are a lawful tariff file: its width and its counts, or its fault. There is room for all lines.
 pub fn check_tariff(bytes: &[u8]) -> Result<Counts, FileFault>
     ensures value { result ≡ answer (file_at 1024 512 bytes.now) }
-    ensures says { Right-reading 1024 512 bytes.now }
+    ensures says { RightReading 1024 512 bytes.now }
 {
     check(bytes, 1024, 512)
 }

@@ -61,8 +61,8 @@ module _ (w : ℕ) (few : w ≤ 512) where
 pub file_most : (t : Tariff) → LawfulTariff t → length (file_bytes t) ≤ 47110
 file_most t h =
     let width = small_number t.width (omega (arith, h.few)) in
-    let fare-count = small_number (length t.fares) (omega (arith, h.fares.few)) in
-    let term-count = small_number (length t.terms) (omega (arith, h.terms.few)) in
+    let fare_count = small_number (length t.fares) (omega (arith, h.fares.few)) in
+    let term_count = small_number (length t.terms) (omega (arith, h.terms.few)) in
     let fares = joined_most fare_bytes _ 36 (fare_most t.width h.few) t.fares h.fares.each in
     let terms = joined_most term_bytes _ 20 (term_most t.width h.few) t.terms h.terms.each in
     omega (arith, h.fares.few, h.terms.few, length_file t.width _ _ t.fares t.terms refl refl, length_three (encode t.width) (encode (length t.fares)) (encode (length t.terms)), length-append (flat_map fare_bytes t.fares) (flat_map term_bytes t.terms))

@@ -19,11 +19,11 @@ pub length_term : (l : TermLine) → length (term_bytes l) ≡ length (encode (t
 length_term l = length_three (encode (the_kind l.kind).number) (head_bytes l.kind l.head) (list_bytes l.conditions)
 
 -- a file: its three numbers, and then its lines
-module _ (w f g : ℕ) (fares : List FareLine) (terms : List TermLine) (many-fares : f ≡ length fares) (many-terms : g ≡ length terms) where
+module _ (w f g : ℕ) (fares : List FareLine) (terms : List TermLine) (many_fares : f ≡ length fares) (many_terms : g ≡ length terms) where
   pub numbers_then_lines : (encode w ++ (encode f ++ encode g)) ++ (flat_map fare_bytes fares ++ flat_map term_bytes terms) ≡ file_bytes (tariff_of w fares terms)
   numbers_then_lines =
       let lines = flat_map fare_bytes fares ++ flat_map term_bytes terms in
-      append_assoc (encode w) (encode f ++ encode g) lines ∙ ap (λ l. encode w ++ l) (append_assoc (encode f) (encode g) lines) ∙ (λ i. encode w ++ (encode (many-fares i) ++ (encode (many-terms i) ++ lines)))
+      append_assoc (encode w) (encode f ++ encode g) lines ∙ ap (λ l. encode w ++ l) (append_assoc (encode f) (encode g) lines) ∙ (λ i. encode w ++ (encode (many_fares i) ++ (encode (many_terms i) ++ lines)))
 
   pub length_file : length (file_bytes (tariff_of w fares terms)) ≡ length (encode w ++ (encode f ++ encode g)) + length (flat_map fare_bytes fares ++ flat_map term_bytes terms)
   length_file = sym (ap length numbers_then_lines) ∙ length-append (encode w ++ (encode f ++ encode g)) (flat_map fare_bytes fares ++ flat_map term_bytes terms)

@@ -8,15 +8,15 @@ returns-in-Ok c =
     let read = c.in-Ok.ensures in
     let m = length c.args.self.now.fares in
     let n = length c.args.self.now.terms in
-    let m-is : m ≡ 1024 = search rules in
-    let n-is : n ≡ 512 = search rules in
-    loaded m n c.args.file.now m-is n-is _ c.args.self.now.fares c.args.self.now.terms (file_at m n c.args.file.now) read.says.answer read.value read.fares read.terms
+    let m_is : m ≡ 1024 = search rules in
+    let n_is : n ≡ 512 = search rules in
+    loaded m n c.args.file.now m_is n_is _ c.args.self.now.fares c.args.self.now.terms (file_at m n c.args.file.now) read.says.answer read.value read.fares read.terms
 
 pub returns-in-Err : goal.returns-in-Err
 returns-in-Err c =
     let read = c.in-Err.ensures in
     let m = length c.args.self.now.fares in
     let n = length c.args.self.now.terms in
-    let m-is : m ≡ 1024 = search rules in
-    let n-is : n ≡ 512 = search rules in
-    not_loaded m n c.args.file.now m-is n-is c.in-Err.fault (file_at m n c.args.file.now) read.says.answer read.value
+    let m_is : m ≡ 1024 = search rules in
+    let n_is : n ≡ 512 = search rules in
+    not_loaded m n c.args.file.now m_is n_is c.in-Err.fault (file_at m n c.args.file.now) read.says.answer read.value
