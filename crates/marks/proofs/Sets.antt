@@ -1,5 +1,5 @@
 -- Sets of marks as tests of numbers.
-use Rattle.std.proofs.Common.{◌≡◌, ℕ, ◌<◌, ◌≤◌, Bool, true, false, not, ◌&&◌, ◌||◌, T, eqb, sym, refl, ap, subst, arith, eqb→eq, ltb→lt, lt→ltb}
+use Rattle.std.proofs.Common.{◌≡◌, ℕ, ◌<◌, ◌≤◌, Bool, true, false, not, ◌&&◌, ◌||◌, T, eqb, sym, refl, subst, arith, eqb→eq, ltb→lt, lt→ltb}
 use mathlib.Core.Path.{fun_ext}
 use Rattle.marks.specs.Sets.{Marks, ◌∈◌, ◌⊆◌, below, OfWidth, with_mark, without_mark, ◌∪◌, ◌∩◌}
 

@@ -1,5 +1,5 @@
 -- The marks that words hold: after a write, a word at a time, from a place on.
-use Rattle.std.proofs.Common.{◌≡◌, ℕ, zero, suc, ◌+◌, ◌-◌, ◌*◌, ◌/◌, ◌%◌, ◌^◌, ◌<◌, ◌≤◌, Bool, true, false, cond, not, ◌&&◌, ◌||◌, T, eqb, ◌≢◌, ◌⊎◌, List, length, get_or, set, replicate, sym, refl, ap, ◌∙◌, ap₂, inl, inr, ⊎_elim, arith, length-set, get_or-set_other, get_or-set_same}
+use Rattle.std.proofs.Common.{◌≡◌, ℕ, zero, suc, ◌+◌, ◌-◌, ◌*◌, ◌/◌, ◌%◌, ◌^◌, ◌<◌, ◌≤◌, Bool, true, false, cond, not, ◌&&◌, ◌||◌, T, eqb, ◌⊎◌, List, length, get_or, set, replicate, sym, refl, ap, ◌∙◌, ap₂, inl, inr, ⊎_elim, arith, length-set, get_or-set_other, get_or-set_same}
 use mathlib.Core.Path.{fun_ext}
 use lib.Bits.{bit_and, bit_or, and_le_l}
 use lib.Count.{ones, count_trailing_zeros}
@@ -7,10 +7,10 @@ use lib.ListN.{get_or-eq_default}
 use Rattle.std.proofs.lemmas.Nat.{one_shl, shr_le}
 use Rattle.std.proofs.lemmas.Bool.{cases_eq, cases_lt, eq-eqb, ne_eqb, both_ways}
 use Rattle.std.proofs.lemmas.Bool.Decides.{nat_tests}
-use Rattle.marks.specs.Sets.{Marks, ◌∈◌, ◌⊆◌, no_marks, with_mark, without_mark, size, Lowest}
+use Rattle.marks.specs.Sets.{Marks, ◌∈◌, no_marks, with_mark, without_mark, size}
 use Rattle.marks.specs.Words.{bit, held}
 use Rattle.marks.proofs.Bits.{bit_zero, bit_of_and, bit_of_or, bit_pow, bit_not, bit_shr, bit_high, bits_eq, trailing_at, trailing_below, trailing_some}
-use Rattle.marks.proofs.Sets.{holds, fails, is_true, is_false}
+use Rattle.marks.proofs.Sets.{holds, is_true, is_false}
 use Rattle.marks.proofs.Sizes.{size_add, size_same, ones_size}
 
 -- words of zeros hold nothing

@@ -1,7 +1,7 @@
 -- Sets of marks: their operations mark by mark, equality by inclusion both ways, and what can be decided of them.
 use mathlib.Core.Bool.{Bool, true, false, ◌||◌, ◌&&◌, not}
 use mathlib.Core.Logic.{◌⊎◌, inl, inr}
-use mathlib.Core.Path.{◌≡◌, refl, fun_ext, subst, sym}
+use mathlib.Core.Path.{◌≡◌, subst, sym}
 use Prim.Native.Nat.{ℕ, zero, suc, ◌<◌}
 use native.Mathlib.Nat.{not-suc-le-zero, eq-or-lt_of_le, le_of_suc-le-suc}
 use lib.Dec.{T, eqb, eqb→eq, eqb_refl, ltb→lt, T_not, not_T}

@@ -1,5 +1,5 @@
 -- The rules leave no reply open: two right replies to one call after one history are the same.
-use Rattle.std.proofs.Common.{◌≡◌, ℕ, cond, eqb, List, [], ◌∷◌, map, Ok, Err, Result, sym, refl, ap, ◌∙◌, subst, inl, inr, arith}
+use Rattle.std.proofs.Common.{◌≡◌, ℕ, cond, eqb, List, [], ◌∷◌, Ok, Err, Result, sym, refl, ap, ◌∙◌, subst, inl, inr, arith}
 use Rattle.marks.specs.declared.refusal.Refusal.{Refusal}
 use Rattle.marks.specs.declared.refusal.Refusal.TheVariants.{BytesEnd, Malformed, OutsideLimit, NotAscending, FewRecords, BytesRemain, Width, Record, MarkTooHigh, FactStands, NoSuchFact, NotSettled, OutputShort}
 use Rattle.marks.specs.Refusals.{number, Refuses, Gives, Test}
@@ -21,8 +21,8 @@ use Rattle.sheet.specs.declared.call.Call.TheVariants.{Enter, Strike, Settle, As
 use Rattle.sheet.specs.declared.reply.Reply.{Reply}
 use Rattle.sheet.specs.declared.reply.Reply.TheVariants.{Done, Settled, Told}
 use Rattle.sheet.specs.declared.reply.Settlement.{Settlement}
-use Rattle.runs.specs.Histories.{Event, History, Standing}
-use Rattle.runs.specs.Runs.{SettleRight, AskRight, ReplyRight, RightRun, begun, more}
+use Rattle.runs.specs.Histories.{History, Standing}
+use Rattle.runs.specs.Runs.{SettleRight, AskRight, ReplyRight, more}
 use Rattle.runs.specs.Theorems.{RunsDecide}
 use Rattle.runs.proofs.Turning.{event, one_standing}
 

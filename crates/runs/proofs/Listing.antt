@@ -9,7 +9,7 @@ use Rattle.sheet.specs.declared.call.Call.TheVariants.{Ask}
 use Rattle.sheet.specs.declared.reply.Reply.{Reply}
 use Rattle.sheet.specs.declared.reply.Reply.TheVariants.{Done}
 use Rattle.sheet.specs.declared.sheet.Sheet.{Sheet}
-use Rattle.runs.specs.Histories.{Event, History}
+use Rattle.runs.specs.Histories.{History}
 use Rattle.runs.specs.Lists.{history, RunIn}
 use Rattle.runs.specs.Runs.{RightRun}
 use Rattle.runs.specs.Theorems.{Chain, new, call}

@@ -1,14 +1,14 @@
 -- One event more: which facts then stand.
-use Rattle.std.proofs.Common.{◌≡◌, ℕ, Bool, true, false, eqb, ◌⊎◌, List, [], ◌∷◌, Ok, Err, Result, sym, refl, subst, inl, inr, eq-eqb, ne_eqb}
+use Rattle.std.proofs.Common.{◌≡◌, ℕ, [], ◌∷◌, Ok, Err, Result, inl, inr, eq-eqb, ne_eqb}
 use Rattle.std.proofs.lemmas.Bool.{cases_eq}
 use Rattle.marks.specs.declared.refusal.Refusal.{Refusal}
 use Rattle.marks.specs.Refusals.{Refuses, Gives}
-use Rattle.marks.specs.Sets.{Marks, ◌∈◌, no_marks, with_mark, without_mark}
+use Rattle.marks.specs.Sets.{Marks, no_marks, with_mark, without_mark}
 use Rattle.marks.proofs.Sets.{same_sets}
 use Rattle.sheet.specs.declared.call.Call.{Call}
 use Rattle.sheet.specs.declared.call.Call.TheVariants.{Enter, Strike}
 use Rattle.sheet.specs.declared.reply.Reply.{Reply}
-use Rattle.runs.specs.Histories.{Event, History, Accepted, Enters, Strikes, Settles, LastIs, latest, earlier, Turns, Alters, Stands, Standing}
+use Rattle.runs.specs.Histories.{Event, History, LastIs, latest, earlier, Turns, Standing}
 
 abbrev pub event : Call → Result Reply Refusal → Event
 event c r = record { call = c; reply = r }

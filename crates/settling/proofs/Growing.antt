@@ -11,7 +11,6 @@ use Rattle.readings.specs.Rules.{Rule}
 use Rattle.readings.specs.Yields.{HasHeads}
 use Rattle.marks.proofs.Sizes.{size_le}
 use Rattle.readings.proofs.Sizes.{size_grows}
-use Rattle.lines.specs.Lawful.{LawfulFare}
 use Rattle.lines.specs.Passes.{View, swept}
 use Rattle.lines.specs.Passes.{Passes}
 use Rattle.lines.specs.Records.{rule_of}

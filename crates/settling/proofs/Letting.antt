@@ -1,5 +1,5 @@
 -- Facts among the rules that a gate admits.
-use Rattle.std.proofs.Common.{◌≡◌, ℕ, List, [], sym}
+use Rattle.std.proofs.Common.{◌≡◌, ℕ, List, sym}
 use mathlib.Core.List.Memᴰ
 use Rattle.marks.specs.declared.set.MarkSet.{MarkSet}
 use Rattle.marks.specs.MarkSets.{marks_of}

@@ -1,9 +1,8 @@
 -- How many marks have an answer: there is one such number.
-use Rattle.std.proofs.Common.{◌≡◌, ℕ, ◌<◌, Bool, true, false, not, ◌&&◌, ◌||◌, T, ◌↔◌, sym, refl, ◌∙◌}
-use Rattle.marks.specs.Sets.{Marks, ◌∈◌, ◌∪◌, ◌∩◌, ◌∖◌, size}
+use Rattle.std.proofs.Common.{◌≡◌, ℕ, Bool, true, false, not, ◌&&◌, ◌||◌, T, ◌↔◌, sym, refl, ◌∙◌}
+use Rattle.marks.specs.Sets.{Marks, ◌∈◌, size}
 use Rattle.marks.proofs.Sets.{same_test}
 use Rattle.marks.proofs.Sizes.{size_same}
-use Rattle.readings.specs.ExactlyOne.{ExactlyOne}
 use Rattle.readings.specs.Says.{the_answer}
 use Rattle.readings.specs.declared.answer.Answer.{Answer}
 use Rattle.readings.specs.declared.answer.Answer.TheVariants.{Not, Holds, Open, Both}

@@ -1,7 +1,7 @@
-use Rattle.std.proofs.Common.{◌≡◌, ℕ, ◌≤◌, ltb, List, length, Ok, Err, sym, ap, ◌∙◌, subst, arith}
+use Rattle.std.proofs.Common.{◌≡◌, ℕ, ◌≤◌, ltb, List, length, Ok, sym, ap, ◌∙◌, subst, arith}
 use Rattle.std.proofs.lemmas.Bool.{cond-false, le-ltb}
 use Rattle.tariff.specs.Facts.{ended}
-use Rattle.tariff.specs.Readings.{text, and_then, mapped}
+use Rattle.tariff.specs.Readings.{and_then, mapped}
 use Rattle.tariff_format.specs.declared.counts.Counts.{Counts}
 use Rattle.tariff_format.specs.Encoding.{Tariff}
 use Rattle.tariff_format.specs.Faults.{outside_lines, as_lines}

@@ -1,6 +1,5 @@
-use Rattle.std.proofs.Common.{◌≡◌, ℕ, ◌-◌, ◌≤◌, List, ◌++◌, length, take, drop, replicate, Ok, sym, refl, ap, ◌∙◌, arith}
+use Rattle.std.proofs.Common.{◌≡◌, ℕ, ◌-◌, ◌≤◌, List, ◌++◌, length, take, drop, replicate, Ok, sym, ap, ◌∙◌}
 use Rattle.std.proofs.lemmas.List.{drop-replicate, length-take-le}
-use Rattle.lines.specs.declared.list.MarkList.{MarkList}
 use Rattle.tariff.specs.Lists.{marks_at}
 use Rattle.tariff.specs.Readings.{text, and_then, mapped, number_at}
 use Rattle.tariff_format.specs.Lines.{held, list_at}

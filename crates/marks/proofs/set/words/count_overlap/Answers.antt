@@ -1,5 +1,4 @@
-use Rattle.std.proofs.Common.{◌≡◌, ◌*◌, sym, subst, arith}
-use Rattle.marks.specs.Overlaps.{Overlaps}
+use Rattle.std.proofs.Common.{◌*◌, sym, arith}
 use Rattle.marks.specs.Sets.{below}
 use Rattle.marks.specs.Words.{held}
 use Rattle.marks.proofs.Overlaps.{overlaps_none, overlaps_few, overlaps_more, overlaps_all}

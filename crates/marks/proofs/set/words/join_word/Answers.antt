@@ -1,5 +1,4 @@
 use Rattle.std.proofs.Common.{◌-◌, ◌^◌, Bool, ◌&&◌, ap, ◌∙◌, arith}
-use Rattle.marks.specs.Joins.{joined}
 use Rattle.marks.specs.Words.{bit}
 use Rattle.marks.proofs.Bits.{bit_of_and, bit_of_or, bit_not}
 use Rattle.marks.proofs.set.words.join_word.Goals as goal

@@ -1,9 +1,9 @@
-use Rattle.std.proofs.Common.{◌≡◌, ℕ, ◌+◌, ◌*◌, ◌<◌, ◌≤◌, Bool, false, sym, refl, ap, ◌∙◌, subst, ap₂, arith}
+use Rattle.std.proofs.Common.{◌≡◌, ℕ, ◌+◌, ◌*◌, false, sym, ◌∙◌, subst, arith}
 use Rattle.marks.specs.declared.set.words.Join.{Join}
 use Rattle.marks.specs.declared.set.words.Join.TheVariants.{Union, Intersection, Difference}
 use Rattle.marks.specs.Joins.{joined}
 use Rattle.marks.specs.Sets.{Marks, OfWidth}
-use Rattle.marks.specs.Words.{bit, held}
+use Rattle.marks.specs.Words.{held}
 use Rattle.marks.proofs.Sets.{both_inside, part_inside}
 use Rattle.marks.proofs.Words.{held_past, held_word, filled_more, filled_held}
 use Rattle.marks.proofs.set.words.join_words.Goals as goal

@@ -1,10 +1,10 @@
-use Rattle.std.proofs.Common.{◌≡◌, ℕ, ◌+◌, ◌/◌, ◌%◌, ◌^◌, ◌<◌, ◌≤◌, get_or, ⊎_elim, arith, ltb→lt}
+use Rattle.std.proofs.Common.{◌≡◌, ◌+◌, ◌/◌, ◌%◌, ◌^◌, ◌<◌, ◌≤◌, get_or, ⊎_elim, arith, ltb→lt}
 use lib.Count.{count_trailing_zeros}
 use Rattle.std.proofs.lemmas.Bool.{cases_lt}
 use Rattle.marks.specs.Sets.{◌∈◌}
 use Rattle.marks.specs.Words.{held}
 use Rattle.marks.proofs.Sets.{holds, fails}
-use Rattle.marks.proofs.Words.{none_left, lead_inside, lead_is, lead_first}
+use Rattle.marks.proofs.Words.{none_left, lead_is, lead_first}
 use Rattle.marks.proofs.set.words.next_mark.Goals as goal
 
 pub returns-then-rest-ne0 : goal.returns-then-rest-ne0

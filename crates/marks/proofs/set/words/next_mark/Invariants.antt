@@ -1,4 +1,4 @@
-use Rattle.std.proofs.Common.{◌≡◌, ℕ, ◌-◌, ◌<◌, ◌≤◌}
+use Rattle.std.proofs.Common.{ℕ, ◌-◌, ◌<◌, ◌≤◌}
 use Rattle.marks.specs.Sets.{◌∈◌}
 use Rattle.marks.specs.Words.{held}
 use Rattle.marks.proofs.set.words.next_mark.Given as goal

@@ -1,4 +1,3 @@
-use Rattle.marks.specs.Sets.{no_marks}
 use Rattle.marks.proofs.Sets.{equal_within}
 use Rattle.marks.proofs.Words.{held_zeros}
 use Rattle.marks.proofs.set.words.no_words.Goals as goal

@@ -1,4 +1,4 @@
-use Rattle.std.proofs.Common.{ℕ, ◌+◌, ◌*◌, ◌<◌, get_or}
+use Rattle.std.proofs.Common.{ℕ, ◌<◌, get_or}
 use Rattle.marks.specs.Sets.{◌∈◌}
 use Rattle.marks.specs.Words.{bit}
 use Rattle.marks.proofs.set.words.words_within.Given as goal

@@ -1,4 +1,4 @@
-use Rattle.std.proofs.Common.{◌≡◌, sym, ◌∙◌}
+use Rattle.std.proofs.Common.{sym, ◌∙◌}
 use Rattle.settling.proofs.Answering.{gives_map}
 use Rattle.sheet.specs.Steps.{OtherWidth, Unlawful, Found}
 use Rattle.sheet.proofs.Answering.{test_map, stable_equal}
