@@ -4,7 +4,7 @@
 #[cfg(test)]
 mod bars;
 #[cfg(test)]
-mod lines;
+mod line_books;
 #[cfg(test)]
 mod made;
 #[cfg(test)]

@@ -1,9 +1,9 @@
 // Puts cases, one to a line of the input, through the public calls of the module and prints a line for each.
 #![tactic(auto)]
 
-mod books;
 mod bytes;
 mod calls;
+mod case_book;
 mod files;
 mod jobs;
 mod records;
@@ -11,7 +11,7 @@ mod show;
 mod words;
 
 use anyhow::anyhow;
-use books::on_book;
+use case_book::on_book;
 use jobs::Job;
 use show::Printed;
 use std::alloc::Global;

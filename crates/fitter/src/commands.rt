@@ -8,7 +8,7 @@ use crate::sample::show_sample;
 use crate::script::method_of;
 use crate::settle::{show_closed, show_settled};
 use crate::show::{check_file, copy_file, rewrite_file, show_file};
-use crate::tariff::Tariff;
+use crate::tariff_file::Tariff;
 use readings::method::Method;
 use std::alloc::Global;
 

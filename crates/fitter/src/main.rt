@@ -12,7 +12,7 @@ mod sample;
 mod script;
 mod settle;
 mod show;
-mod tariff;
+mod tariff_file;
 mod text;
 mod words;
 
@@ -22,7 +22,7 @@ use run::{input_script, run_script};
 use std::alloc::Global;
 use std::env;
 use std::process::ExitCode;
-use tariff::Tariff;
+use tariff_file::Tariff;
 
 fn main(rt: HostRuntime) -> ExitCode {
     match by_words(&rt) {

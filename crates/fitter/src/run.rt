@@ -1,7 +1,7 @@
 // Scripts of calls, performed on a new sheet under a tariff.
 use crate::failure::{Failure, cannot};
 use crate::script::{CallText, ReplyText, calls_of};
-use crate::tariff::Tariff;
+use crate::tariff_file::Tariff;
 use marks::refusal::Refusal;
 use runs::list::perform_all;
 use sheet::call::Call;

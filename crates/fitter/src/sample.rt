@@ -3,7 +3,7 @@ use crate::failure::Failure;
 use crate::run::run_script;
 use crate::settle::show_counts;
 use crate::show::show_tariff;
-use crate::tariff::Tariff;
+use crate::tariff_file::Tariff;
 
 // The bytes of examples/sample.tariff.
 pub(crate) static FILE: [u8; 21] = [

@@ -1,7 +1,7 @@
 // Trips under a tariff: sets closed under its terms, and facts settled.
 use crate::failure::Failure;
 use crate::script::ReplyText;
-use crate::tariff::Tariff;
+use crate::tariff_file::Tariff;
 use crate::text::{Braced, Facts};
 use crate::words::{answer_word, verdict_meaning};
 use books::book::TermBook;

@@ -1,7 +1,7 @@
 // Tariff files: shown, checked and copied.
 use crate::failure::{Failure, cannot};
 use crate::line_text::{FareText, TermText};
-use crate::tariff::{Tariff, bytes_of};
+use crate::tariff_file::{Tariff, bytes_of};
 use crate::text::Many;
 use lines::fare::FareLine;
 use lines::term::TermLine;

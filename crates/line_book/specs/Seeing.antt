@@ -7,7 +7,7 @@ use Rattle.std.proofs.Math.Logic.{∥∥₁_elim}
 use Rattle.std.proofs.Math.Bridge.{le_prop}
 use Rattle.std.proofs.ByRecursion.{All-get_or}
 use Rattle.std.proofs.lemmas.List.{length-take, get_or-take}
-use Rattle.std.specs.List.{AllByRecursion as All}
+use Rattle.std.specs.List.{AllByRecursion}
 use Rattle.books.proofs.Members.{from_map, to_map}
 use Rattle.lines.specs.declared.term.TermLine.{TermLine}
 use Rattle.lines.specs.Lawful.{LawfulTerm}
@@ -36,7 +36,7 @@ heads_below w (k ∷ ks) law l h i e =
       | inr j ↦ heads_below w ks (λ n d b. law (suc n) d (omega arith)) l h j e
     ]
 
-pub all_first : (w : ℕ) (ls : List TermLine) → All (LawfulTerm w) ls → FirstLawful w ls (length ls)
+pub all_first : (w : ℕ) (ls : List TermLine) → AllByRecursion (LawfulTerm w) ls → FirstLawful w ls (length ls)
 all_first w ls law i d h = ∣ All-get_or (LawfulTerm w) ls i d h law ∣₁
 
 pub first_taken : (w n : ℕ) (ls : List TermLine) → FirstLawful w ls n → FirstLawful w (take n ls) (length (take n ls))

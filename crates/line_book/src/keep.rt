@@ -1,6 +1,6 @@
 // Lines written into the table.
 ghost use Rattle.std.specs.Prelude.{◌≡◌, ℕ, ◌≤◌, length, take};
-ghost use Rattle.std.specs.List.{AllByRecursion as All};
+ghost use Rattle.std.specs.List.{AllByRecursion};
 ghost use Rattle.lines.specs.Lawful.{LawfulTerm};
 ghost use Rattle.line_book.specs.Lines.{FirstLawful};
 
@@ -11,7 +11,7 @@ use lines::term::TermLine;
 pub(crate) fn keep_lines(table: &mut [TermLine; 512], lines: &[TermLine]) -> usize
     ensures few { result ≤ 512 }
     ensures all { length lines.now ≤ 512 → take result table.new ≡ lines.now }
-    ensures lawful { (w : ℕ) → All (LawfulTerm w) lines.now → FirstLawful w table.new result }
+    ensures lawful { (w : ℕ) → AllByRecursion (LawfulTerm w) lines.now → FirstLawful w table.new result }
 {
     overwrite(table, lines)
 }

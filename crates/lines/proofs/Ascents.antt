@@ -2,7 +2,7 @@
 use Rattle.std.proofs.Common.{ℕ, ◌+◌, ◌<◌, ◌≤◌, List, [], ◌∷◌, length, get_or, drop, IfSome, Some, None, Option, sym, subst, arith}
 use Rattle.std.proofs.ByRecursion.{All-weaker}
 use Rattle.std.proofs.lemmas.List.{drop_more, drop_all}
-use Rattle.std.specs.List.{AllByRecursion as All}
+use Rattle.std.specs.List.{AllByRecursion}
 use Rattle.lines.specs.Lawful.{Ascends, AllBelow}
 
 -- marks below w that ascend strictly, the first of them not below least
@@ -10,7 +10,7 @@ abbrev pub Ascending : (w least : ℕ) → List ℕ → Type 0
 Ascending w least [] = Unit {0}
 Ascending w least (m ∷ ms) = (least ≤ m) × (m < w) × Ascending w (m + 1) ms
 
-at_least : (w least : ℕ) (ms : List ℕ) → Ascending w least ms → All (λ m. least ≤ m) ms
+at_least : (w least : ℕ) (ms : List ℕ) → Ascending w least ms → AllByRecursion (λ m. least ≤ m) ms
 at_least w least [] h = tt
 at_least w least (m ∷ ms) h = (h.0, All-weaker (λ k. m + 1 ≤ k) (λ k. least ≤ k) (λ k l. omega (arith, h.0)) ms (at_least w (m + 1) ms h.2))
 
@@ -20,7 +20,7 @@ ascending_ascends w least (m ∷ ms) h =
     let rest = ascending_ascends w (m + 1) ms h.2 in
     ((All-weaker (λ k. m + 1 ≤ k) (λ k. m < k) (λ k l. omega arith) ms (at_least w (m + 1) ms h.2), rest.0), (h.1, rest.1))
 
-ascends_from : (w least : ℕ) (ms : List ℕ) → All (λ m. least ≤ m) ms → Ascends ms → AllBelow w ms → Ascending w least ms
+ascends_from : (w least : ℕ) (ms : List ℕ) → AllByRecursion (λ m. least ≤ m) ms → Ascends ms → AllBelow w ms → Ascending w least ms
 ascends_from w least [] l a b = tt
 ascends_from w least (m ∷ ms) l a b =
     (l.0, b.0, ascends_from w (m + 1) ms (All-weaker (λ k. m < k) (λ k. m + 1 ≤ k) (λ k h. omega arith) ms a.0) a.1 b.1)

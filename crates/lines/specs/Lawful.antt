@@ -1,6 +1,6 @@
 -- When a record is lawful for a width: its counts keep the limit, its used marks lie below the width, and its lists ascend.
 use Rattle.std.specs.Prelude.{ℕ, ◌<◌, ◌≤◌, List, [], ◌∷◌, length, IfSome}
-use Rattle.std.specs.List.{AllByRecursion as All}
+use Rattle.std.specs.List.{AllByRecursion}
 use Rattle.lines.specs.declared.bar.Bar.{Bar}
 use Rattle.lines.specs.declared.fare.FareLine.{FareLine}
 use Rattle.lines.specs.declared.list.MarkList.{MarkList}
@@ -10,10 +10,10 @@ use Rattle.lines.specs.Records.{used, term_head}
 -- the marks ascend strictly: each is below all that follow
 abbrev pub Ascends : List ℕ → Type 0
 Ascends [] = Unit {0}
-Ascends (m ∷ ms) = All (λ k. m < k) ms × Ascends ms
+Ascends (m ∷ ms) = AllByRecursion (λ k. m < k) ms × Ascends ms
 
 abbrev pub AllBelow : ℕ → List ℕ → Type 0
-AllBelow w ms = All (λ m. m < w) ms
+AllBelow w ms = AllByRecursion (λ m. m < w) ms
 
 pub record LawfulList (w : ℕ) (l : MarkList) : Type 0 where
   pub count : l.count ≤ 8
@@ -37,4 +37,4 @@ pub record LawfulBar (w : ℕ) (b : Bar) : Type 0 where
 -- there are at most so many records, and each is lawful
 pub record AllLawful {R : Type 0} (lawful : R → Type 0) (most : ℕ) (records : List R) : Type 0 where
   pub few : length records ≤ most
-  pub each : All lawful records
+  pub each : AllByRecursion lawful records

@@ -2,7 +2,7 @@
 -- src/theorems.rt, so its proof is asked for.
 use Rattle.std.specs.Prelude.{◌≡◌, ℕ, ◌<◌, true, T, List, map, Some, None, Decides, ◌≢◌}
 use mathlib.Core.List.{Memᴰ}
-use Rattle.std.specs.List.{AllByRecursion as All}
+use Rattle.std.specs.List.{AllByRecursion}
 use Rattle.marks.specs.Sets.{Marks, ◌∈◌, ◌⊆◌, OfWidth, size}
 use Rattle.readings.specs.Rules.{Rule, AllIn, NoneIn, RuleWithin}
 use Rattle.lines.specs.declared.bar.Bar.{Bar}
@@ -25,7 +25,7 @@ pub record EqualMeansSame : Type 0 where
 
 -- Lawful fare lines are rules with all their marks below the width.
 abbrev pub LawfulLinesFit : Type 0
-LawfulLinesFit = (w : ℕ) (lines : List FareLine) → All (LawfulFare w) lines → (r : Rule) → Memᴰ r (map rule_of lines) → RuleWithin w r
+LawfulLinesFit = (w : ℕ) (lines : List FareLine) → AllByRecursion (LawfulFare w) lines → (r : Rule) → Memᴰ r (map rule_of lines) → RuleWithin w r
 
 -- A rule is admitted exactly when it passes three tests.
 pub record IsAdmitted (E D R : Marks) (r : Rule) : Type 0 where

@@ -1,6 +1,6 @@
 // The test of records for a width.
 ghost use Rattle.std.specs.Prelude.{ℕ, Decides};
-ghost use Rattle.std.specs.List.{AllByRecursion as All};
+ghost use Rattle.std.specs.List.{AllByRecursion};
 ghost use Rattle.marks.specs.Refusals.{Refuses, Gives, Test};
 ghost use Rattle.lines.specs.Lawful.{AllLawful};
 
@@ -17,7 +17,7 @@ pub trait Record {
 
 // Whether each record is lawful for the width.
 fn all_lawful<R: Record>(records: &[R], width: u16) -> bool
-    ensures { Decides result (All (R.Record.lawful width) records.now) }
+    ensures { Decides result (AllByRecursion (R.Record.lawful width) records.now) }
 {
     for record in records {
         if !record.is_lawful(width) {

@@ -1,7 +1,7 @@
 -- Fare lines that cannot be unlawful are lawful.
 use Rattle.std.proofs.Common.{ℕ, ◌<◌, ◌≤◌, List, [], ◌∷◌, length, inl, inr, arith}
 use Rattle.std.proofs.lemmas.Bool.{cases_lt}
-use Rattle.std.specs.List.{AllByRecursion as All}
+use Rattle.std.specs.List.{AllByRecursion}
 use Rattle.lines.specs.declared.fare.FareLine.{FareLine}
 use Rattle.lines.specs.declared.list.MarkList.{MarkList}
 use Rattle.lines.specs.Lawful.{Ascends, LawfulList, LawfulFare}
@@ -18,7 +18,7 @@ le_stable a b h = elim (cases_lt b a) [ inl l ↦ absurd (h (λ k. omega arith))
 lt_stable : (a b : ℕ) → Stable (a < b)
 lt_stable a b h = elim (cases_lt a b) [ inl l ↦ l | inr k ↦ absurd (h (λ l. omega arith)) ]
 
-all_stable : {A : Type 0} (P : A → Type 0) → ((x : A) → Stable (P x)) → (xs : List A) → Stable (All P xs)
+all_stable : {A : Type 0} (P : A → Type 0) → ((x : A) → Stable (P x)) → (xs : List A) → Stable (AllByRecursion P xs)
 all_stable P stable [] h = tt
 all_stable P stable (x ∷ xs) h = (stable x (λ no. h (λ a. no a.0)), all_stable P stable xs (λ no. h (λ a. no a.1)))
 

@@ -4,7 +4,7 @@ use mathlib.Core.Bool.{and-true}
 use mathlib.Core.Path.{fun_ext}
 use Rattle.std.proofs.lemmas.Bool.{cases_lt, cases_eq, cases_Bool, eq-eqb, ne_eqb, lt-ltb, le-ltb, and_left, and_right}
 use Rattle.std.proofs.lemmas.Bool.Decides.{nat_tests}
-use Rattle.std.specs.List.{AllByRecursion as All}
+use Rattle.std.specs.List.{AllByRecursion}
 use Rattle.marks.specs.declared.refusal.Refusal.{Refusal}
 use Rattle.marks.specs.declared.set.MarkSet.{MarkSet}
 use Rattle.marks.specs.MarkSets.{marks_of, IsSet, Unchanged}
@@ -134,7 +134,7 @@ module _ (B : Book) (law : Lawful B) (lines : List FareLine) (facts at : MarkSet
       none (law.clash_comes_back S wide (law.clash_grows (with_mark S m) C (with_wide m (cw m t)) cw (with_within S C m t (law.extensive S wide)) denied))
 
   -- the facts and the heads of the lines are all heads there are
-  head_there : (all : Marks) → marks_of facts ⊆ all → All (HeadIn facts.width all) lines → (r : Rule) → Counts (rules_of lines) (marks_of facts) r → r.head ∈ all
+  head_there : (all : Marks) → marks_of facts ⊆ all → AllByRecursion (HeadIn facts.width all) lines → (r : Rule) → Counts (rules_of lines) (marks_of facts) r → r.head ∈ all
   head_there all f h r (stands {m} t) = f m t
   head_there all f h r (line i) =
       let from = map_from rule_of lines r i in
@@ -144,7 +144,7 @@ module _ (B : Book) (law : Lawful B) (lines : List FareLine) (facts at : MarkSet
       (all_in_list (HeadIn facts.width all) lines h l from.1 (let e = goes.width in let k = law_of.head in omega arith))
 
   -- so it is enough to try the other heads
-  pub denies_tried : (all : Marks) (D : MarkSet) → marks_of facts ⊆ all → All (HeadIn facts.width all) lines → (Clashes B S → ⊥)
+  pub denies_tried : (all : Marks) (D : MarkSet) → marks_of facts ⊆ all → AllByRecursion (HeadIn facts.width all) lines → (Clashes B S → ⊥)
       → IsSet D B.width (denied_below B S (all ∖ B.closure S) B.width) → DeniesHeads B lines facts at D
   denies_tried all D f h none is =
       record {

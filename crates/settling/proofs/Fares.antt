@@ -2,7 +2,7 @@
 use Rattle.std.proofs.Common.{◌≡◌, ℕ, T, List, [], ◌∷◌, map, Some, sym, refl, ap, ◌∙◌, subst, inl, inr, ltb→lt}
 use mathlib.Core.List.Memᴰ
 use mathlib.Core.List.{Memᴰ}
-use Rattle.std.specs.List.{AllByRecursion as All}
+use Rattle.std.specs.List.{AllByRecursion}
 use Rattle.marks.specs.declared.set.MarkSet.{MarkSet}
 use Rattle.marks.specs.MarkSets.{marks_of}
 use Rattle.marks.specs.Sets.{Marks, ◌∈◌, OfWidth}
@@ -20,7 +20,7 @@ use Rattle.settling.specs.Calls.{GoesWith}
 use Rattle.settling.specs.Growth.{rules_of, LineLetIn}
 
 -- what holds of every element holds of each that is there
-pub all_in_list : {A : Type 0} (P : A → Type 0) (xs : List A) → All P xs → (x : A) → Memᴰ x xs → P x
+pub all_in_list : {A : Type 0} (P : A → Type 0) (xs : List A) → AllByRecursion P xs → (x : A) → Memᴰ x xs → P x
 all_in_list P [] all x i = absurd (Memᴰ.not-nil i)
 all_in_list P (y ∷ ys) all x i =
     elim (Memᴰ.cases_cons i) [ inl e ↦ subst P (sym e) all.0 | inr j ↦ all_in_list P ys all.1 x j ]

@@ -3,7 +3,7 @@ ghost use Rattle.std.specs.Prelude.{◌≡◌, ◌<◌};
 ghost use Rattle.marks.specs.MarkSets.{marks_of, IsSet};
 ghost use Rattle.marks.specs.Refusals.{Gives};
 ghost use Rattle.marks.specs.Sets.{◌⊆◌, with_mark};
-ghost use Rattle.std.specs.List.{AllByRecursion as All};
+ghost use Rattle.std.specs.List.{AllByRecursion};
 ghost use Rattle.settling.specs.Calls.{GoesWith};
 ghost use Rattle.settling.specs.Growth.{HeadIn, denied_below, DeniesHeads};
 
@@ -16,7 +16,7 @@ use marks::set::MarkSet;
 fn all_heads(lines: &[FareLine], facts: &MarkSet) -> MarkSet
     ensures width { result.width ≡ facts.now.width }
     ensures facts { marks_of facts.now ⊆ marks_of result }
-    ensures heads { All (HeadIn facts.now.width (marks_of result)) lines.now }
+    ensures heads { AllByRecursion (HeadIn facts.now.width (marks_of result)) lines.now }
 {
     let mut heads = *facts;
     for line in lines {

@@ -1,6 +1,6 @@
 -- When a number is refused, in words: which test it fails first, and that its fault points at the byte where it starts.
 use Rattle.std.specs.Prelude.{◌≡◌, ℕ, ◌+◌, ◌<◌, ◌≤◌, ◌⊎◌, List, ◌++◌, length, take, drop, Ok, Err, Result}
-use Rattle.std.specs.List.{AllByRecursion as All}
+use Rattle.std.specs.List.{AllByRecursion}
 use Rattle.marks.specs.declared.refusal.Refusal.{Refusal}
 use Rattle.marks.specs.declared.refusal.Refusal.TheVariants.{BytesEnd, Malformed, OutsideLimit, NotAscending, FewRecords, BytesRemain, Width, Record, MarkTooHigh, FactStands, NoSuchFact, NotSettled, OutputShort}
 use Rattle.tariff.specs.declared.fault.NumberFault.{NumberFault}
@@ -8,7 +8,7 @@ use Rattle.tariff.specs.Numbers.{spelled, Finished, encode, Begins}
 
 -- every byte has its top bit set
 abbrev pub Topped : List ℕ → Type 0
-Topped bs = All (λ b. 128 ≤ b) bs
+Topped bs = AllByRecursion (λ b. 128 ≤ b) bs
 
 -- the bytes end where a number must start, or after one or two bytes of one that goes on
 abbrev pub Unfinished : List ℕ → Type 0

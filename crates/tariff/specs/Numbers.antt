@@ -1,10 +1,10 @@
 -- Numbers as bytes: groups of seven bits, the lowest first, with the top bit set on every byte but the last (unsigned LEB128),
 -- in the shortest form. Here a number is at most 65,535 and takes at most three bytes.
 use Rattle.std.specs.Prelude.{◌≡◌, ℕ, ◌+◌, ◌*◌, ◌/◌, ◌%◌, ◌<◌, ◌≤◌, cond, List, [], ◌∷◌, ◌++◌, length, nat_lt}
-use Rattle.std.specs.List.{AllByRecursion as All}
+use Rattle.std.specs.List.{AllByRecursion}
 
 abbrev pub Bytes : List ℕ → Type 0
-Bytes bs = All (λ b. b < 256) bs
+Bytes bs = AllByRecursion (λ b. b < 256) bs
 
 -- what bytes spell: their groups of seven bits, the lowest first
 abbrev pub spelled : List ℕ → ℕ

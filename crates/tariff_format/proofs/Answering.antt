@@ -1,6 +1,6 @@
 -- The reading of a file gives what is right to answer, and nothing else is right.
 use Rattle.std.proofs.Common.{◌≡◌, ℕ, ◌+◌, ◌<◌, ◌≤◌, ltb, List, [], ◌++◌, length, drop, Ok, Err, Result, sym, refl, ap, ◌∙◌, subst, append_assoc, arith, length-append, length-drop}
-use Rattle.std.specs.List.{flat_map, AllByRecursion as All}
+use Rattle.std.specs.List.{flat_map, AllByRecursion}
 use Rattle.std.proofs.lemmas.List.{append-nil, drop_all}
 use Rattle.std.proofs.lemmas.Bool.{cond_both, cond-true, cond-false, ltb-true, ltb-false, lt-ltb, le-ltb}
 use Rattle.lines.specs.Lawful.{LawfulFare, LawfulTerm}
@@ -85,8 +85,8 @@ module _ (m n : ℕ) (bs : List ℕ) (bytes : Bytes bs) where
       taken : Taken m n t
       taken =
           let has = subst (HasRoom m n) counted room in
-          let fares = tidy_all (LawfulFare t.width) tidy_fare t.fares (subst (λ w. All (TidyFare w) t.fares) wide lines.lawful.0.0) in
-          let terms = tidy_all (LawfulTerm t.width) tidy_term t.terms (subst (λ w. All (TidyTerm w) t.terms) wide lines.lawful.1.0.0) in
+          let fares = tidy_all (LawfulFare t.width) tidy_fare t.fares (subst (λ w. AllByRecursion (TidyFare w) t.fares) wide lines.lawful.0.0) in
+          let terms = tidy_all (LawfulTerm t.width) tidy_term t.terms (subst (λ w. AllByRecursion (TidyTerm w) t.terms) wide lines.lawful.1.0.0) in
           record {
             tidy = record {
               lawful = record {

@@ -1,6 +1,6 @@
 -- The file of a tariff is bytes, and reads back as that tariff.
 use Rattle.std.proofs.Common.{◌≡◌, ℕ, ◌+◌, ◌/◌, ◌%◌, ◌<◌, ◌≤◌, ltb, List, [], ◌∷◌, ◌++◌, length, take, drop, IfSome, Ok, Result, sym, refl, ap, ◌∙◌, subst, arith}
-use Rattle.std.specs.List.{flat_map, AllByRecursion as All}
+use Rattle.std.specs.List.{flat_map, AllByRecursion}
 use Rattle.std.proofs.ByRecursion.{All-append}
 use Rattle.std.proofs.lemmas.List.{length-map, take_at}
 use Rattle.std.proofs.lemmas.Bool.{cond_both, ltb-true}
@@ -28,7 +28,7 @@ encode_bytes n small =
     cond_both (ltb n 128) (n ∷ []) _ Bytes (λ e. let l = ltb-true n 128 e in (omega arith, tt)) (λ _.
     cond_both (ltb n 16384) ((n % 128 + 128) ∷ (n / 128) ∷ []) ((n % 128 + 128) ∷ (n / 128 % 128 + 128) ∷ (n / 16384) ∷ []) Bytes (λ e. let l = ltb-true n 16384 e in (omega arith, (omega arith, tt))) (λ _. (omega arith, (omega arith, (omega arith, tt)))))
 
-joined_bytes : {X : Type 0} (enc : X → List ℕ) (P : X → Type 0) → ((x : X) → P x → Bytes (enc x)) → (xs : List X) → All P xs → Bytes (flat_map enc xs)
+joined_bytes : {X : Type 0} (enc : X → List ℕ) (P : X → Type 0) → ((x : X) → P x → Bytes (enc x)) → (xs : List X) → AllByRecursion P xs → Bytes (flat_map enc xs)
 joined_bytes enc P each [] h = tt
 joined_bytes enc P each (x ∷ xs) h = All-append (λ b. b < 256) (enc x) (flat_map enc xs) (each x h.0) (joined_bytes enc P each xs h.1)
 

@@ -1,7 +1,7 @@
 -- Readings that are exact, put together: they take what is encoded and nothing else, and where they refuse, all numbers before
 -- the fault are right and the one that starts there fails its tests.
 use Rattle.std.proofs.Common.{◌≡◌, ℕ, zero, suc, ◌+◌, ◌-◌, ◌<◌, List, [], ◌∷◌, ◌++◌, length, drop, Ok, Err, Result, sym, refl, ap, ◌∙◌, subst, append_assoc, add-zero, arith, length-append}
-use Rattle.std.specs.List.{flat_map, AllByRecursion as All}
+use Rattle.std.specs.List.{flat_map, AllByRecursion}
 use Rattle.std.proofs.lemmas.List.{append-nil, drop_at, drop-drop}
 use Rattle.marks.specs.declared.refusal.Refusal.{Refusal}
 use Rattle.tariff.specs.declared.fault.NumberFault.{NumberFault}
@@ -22,7 +22,7 @@ pub data EitherStop {A E : Type 0} (enc : A → List ℕ) (ok : A → Type 0) (o
 pub record EachStop {A E : Type 0} (enc : A → List ℕ) (ok : A → Type 0) (one : ℕ → Stops E) (n i : ℕ) (before : List ℕ) (at : Limits) (up : NumberFault → E) : Type 0 where
   pub done : List A
   pub more : List ℕ
-  pub lawful : All ok done
+  pub lawful : AllByRecursion ok done
   pub few : length done < n
   pub split : before ≡ flat_map enc done ++ more
   pub stop : one (i + length done) more at up
@@ -212,7 +212,7 @@ module _ (bs : List ℕ) where
     rows n i p = many read (λ _ j. j + 1) n i p
 
     abbrev rows_ok : ℕ → List A → Type 0
-    rows_ok n xs = All ok xs × (length xs ≡ n)
+    rows_ok n xs = AllByRecursion ok xs × (length xs ≡ n)
 
     by_rows : (n i p : ℕ) (x : A) (m : ℕ) → Read enc ok p x m → (r : Result (List A × ℕ) E) → Says (flat_map enc) (rows_ok n) (EachStop enc ok stops n (i + 1)) m r → Says (flat_map enc) (rows_ok (suc n)) (EachStop enc ok stops (suc n) i) p (mapped (λ xs. x ∷ xs) r)
     by_rows n i p x m one (Ok y) two = record {
@@ -250,7 +250,7 @@ module _ (bs : List ℕ) where
     rows_say (suc n) i p = by_row n i p (read i p) ((exact i).says p) (λ q. rows_say n (i + 1) q)
 
     -- lines that stand in the bytes are read, and the rest decides
-    rows_read : (xs : List A) (d i p : ℕ) (rest : List ℕ) → All ok xs → drop p bs ≡ flat_map enc xs ++ rest → rows (length xs + d) i p ≡ mapped (λ l. xs ++ l) (rows d (i + length xs) (p + length (flat_map enc xs)))
+    rows_read : (xs : List A) (d i p : ℕ) (rest : List ℕ) → AllByRecursion ok xs → drop p bs ≡ flat_map enc xs ++ rest → rows (length xs + d) i p ≡ mapped (λ l. xs ++ l) (rows d (i + length xs) (p + length (flat_map enc xs)))
     rows_read [] d i p rest lawful h = sym (same (rows d (i + 0) (p + 0)) ∙ (λ k. rows d (add-zero i k) (add-zero p k)) ∙ ap (λ n. rows n i p) (omega arith))
       where
         same : (r : Result (List A × ℕ) E) → mapped (λ l. [] ++ l) r ≡ r

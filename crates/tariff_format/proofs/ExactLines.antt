@@ -1,6 +1,6 @@
 -- Fare lines, term lines and sections of lines are read exactly.
 use Rattle.std.proofs.Common.{◌≡◌, ℕ, ◌-◌, ◌<◌, ◌≤◌, eqb, List, [], ◌++◌, length, Result, sym, refl, ap, ◌∙◌, arith}
-use Rattle.std.specs.List.{flat_map, AllByRecursion as All}
+use Rattle.std.specs.List.{flat_map, AllByRecursion}
 use Rattle.std.proofs.lemmas.List.{append-nil}
 use Rattle.std.proofs.lemmas.Bool.{cond_both, eqb-true, eqb-false}
 use Rattle.lines.specs.declared.fare.FareLine.{FareLine}
@@ -230,8 +230,8 @@ module _ (bs : List ℕ) (bytes : Bytes bs) (w : ℕ) (some : 1 ≤ w) (small : 
 abbrev pub section_stops : {L : Type 0} → Section → (L → List ℕ) → (L → Type 0) → Stops NumberFault → ℕ → Stops FileFault
 section_stops s enc ok stops n = LiftedStop Line (EachStop enc ok (row_stops s stops) n 0)
 
-pub section_exact : {L : Type 0} (bs : List ℕ) (s : Section) (read : ℕ → Result (L × ℕ) NumberFault) (enc : L → List ℕ) (ok : L → Type 0) (stops : Stops NumberFault) → Exact bs read enc ok stops → (n : ℕ) → Exact bs (λ p. as_lines (lines_at (λ i q. in_line (record { section = s; index = i }) (read q)) n 0 p)) (flat_map enc) (λ ls. All ok ls × (length ls ≡ n)) (section_stops s enc ok stops n)
+pub section_exact : {L : Type 0} (bs : List ℕ) (s : Section) (read : ℕ → Result (L × ℕ) NumberFault) (enc : L → List ℕ) (ok : L → Type 0) (stops : Stops NumberFault) → Exact bs read enc ok stops → (n : ℕ) → Exact bs (λ p. as_lines (lines_at (λ i q. in_line (record { section = s; index = i }) (read q)) n 0 p)) (flat_map enc) (λ ls. AllByRecursion ok ls × (length ls ≡ n)) (section_stops s enc ok stops n)
 section_exact bs s read enc ok stops exact n =
-    lifted_exact bs (lines_at (λ i q. in_line (record { section = s; index = i }) (read q)) n 0) (flat_map enc) (λ ls. All ok ls × (length ls ≡ n)) (EachStop enc ok (row_stops s stops) n 0) Line as_lines (λ _. refl) (λ _. refl)
+    lifted_exact bs (lines_at (λ i q. in_line (record { section = s; index = i }) (read q)) n 0) (flat_map enc) (λ ls. AllByRecursion ok ls × (length ls ≡ n)) (EachStop enc ok (row_stops s stops) n 0) Line as_lines (λ _. refl) (λ _. refl)
     (rows_exact bs (λ i q. in_line (record { section = s; index = i }) (read q)) enc ok (row_stops s stops)
     (λ i. lifted_exact bs read enc ok stops (line_fault (record { section = s; index = i })) (in_line (record { section = s; index = i })) (λ _. refl) (λ _. refl) exact) n)

@@ -1,6 +1,6 @@
 -- The lines behind the opening of a file are read exactly, and a file is its opening and its lines.
 use Rattle.std.proofs.Common.{◌≡◌, ℕ, List, [], ◌∷◌, ◌++◌, map, length, sym, refl, ap, ◌∙◌, append_assoc}
-use Rattle.std.specs.List.{flat_map, AllByRecursion as All}
+use Rattle.std.specs.List.{flat_map, AllByRecursion}
 use Rattle.lines.specs.declared.fare.FareLine.{FareLine}
 use Rattle.lines.specs.declared.term.TermLine.{TermLine}
 use Rattle.tariff.specs.Numbers.{Bytes, encode}
@@ -18,14 +18,14 @@ use Rattle.tariff_format.proofs.Exact.{Stops, EitherStop, Exact, mapped_exact, c
 use Rattle.tariff_format.proofs.ExactLines.{fare_stops, term_stops, section_stops, fare_exact, term_exact, section_exact}
 
 -- records that are all tidy
-pub all_tidy : {R : Type 0} (L : R → Type 0) (tidy : R → R) (xs : List R) → All L xs → map tidy xs ≡ xs → All (Tidy L tidy) xs
+pub all_tidy : {R : Type 0} (L : R → Type 0) (tidy : R → R) (xs : List R) → AllByRecursion L xs → map tidy xs ≡ xs → AllByRecursion (Tidy L tidy) xs
 all_tidy L tidy [] lawful zeros = tt
 all_tidy L tidy (x ∷ xs) lawful zeros =
     let here : tidy x ≡ x = cc in
     let rest : map tidy xs ≡ xs = cc in
     (record { lawful = lawful.0; zeros = here }, all_tidy L tidy xs lawful.1 rest)
 
-pub tidy_all : {R : Type 0} (L : R → Type 0) (tidy : R → R) (xs : List R) → All (Tidy L tidy) xs → All L xs × (map tidy xs ≡ xs)
+pub tidy_all : {R : Type 0} (L : R → Type 0) (tidy : R → R) (xs : List R) → AllByRecursion (Tidy L tidy) xs → AllByRecursion L xs × (map tidy xs ≡ xs)
 tidy_all L tidy [] h = (tt, refl)
 tidy_all L tidy (x ∷ xs) h = let rest = tidy_all L tidy xs h.1 in ((h.0.lawful, rest.0), (λ i. h.0.zeros i ∷ rest.1 i))
 
@@ -45,10 +45,10 @@ module _ (bs : List ℕ) (bytes : Bytes bs) where
   -- the lines behind an opening
   module _ (h : Counts) (right : RightCounts h) where
     abbrev pub fares_ok : List FareLine → Type 0
-    fares_ok fs = All (TidyFare h.width) fs × (length fs ≡ h.fares)
+    fares_ok fs = AllByRecursion (TidyFare h.width) fs × (length fs ≡ h.fares)
 
     abbrev pub terms_ok : List TermLine → Type 0
-    terms_ok ts = All (TidyTerm h.width) ts × (length ts ≡ h.terms)
+    terms_ok ts = AllByRecursion (TidyTerm h.width) ts × (length ts ≡ h.terms)
 
     abbrev pub fares_stops : Stops FileFault
     fares_stops = section_stops Fare fare_bytes (TidyFare h.width) (fare_stops h.width) h.fares

@@ -1,6 +1,6 @@
 -- A record with its unused places 0 is lawful, has the same bytes, and is the same in all used places.
 use Rattle.std.proofs.Common.{◌≡◌, ℕ, ◌-◌, ◌<◌, List, [], ◌∷◌, ◌++◌, map, length, replicate, IfSome, sym, refl, ap, ◌∙◌, subst, ap₂, arith, length-append}
-use Rattle.std.specs.List.{flat_map, AllZip, AllByRecursion as All}
+use Rattle.std.specs.List.{flat_map, AllZip, AllByRecursion}
 use Rattle.std.proofs.lemmas.List.{length-take-le, length-map, length-replicate}
 use Rattle.lines.specs.declared.fare.FareLine.{FareLine}
 use Rattle.lines.specs.declared.list.MarkList.{MarkList}
@@ -103,16 +103,16 @@ module _ (w : ℕ) where
 -- the same of lists of records
 module _ {R : Type 0} (L W : R → Type 0) (tidy : R → R) (enc : R → List ℕ) where
   abbrev AllTidied : List R → Type 0
-  AllTidied xs = (All L (map tidy xs) × All W (map tidy xs)) × (map tidy (map tidy xs) ≡ map tidy xs) × (flat_map enc (map tidy xs) ≡ flat_map enc xs)
+  AllTidied xs = (AllByRecursion L (map tidy xs) × AllByRecursion W (map tidy xs)) × (map tidy (map tidy xs) ≡ map tidy xs) × (flat_map enc (map tidy xs) ≡ flat_map enc xs)
 
-  pub all_tidied : ((x : R) → L x → W x → Tidied L W tidy enc x) → (xs : List R) → All L xs → All W xs → AllTidied xs
+  pub all_tidied : ((x : R) → L x → W x → Tidied L W tidy enc x) → (xs : List R) → AllByRecursion L xs → AllByRecursion W xs → AllTidied xs
   all_tidied each [] lawful whole = ((tt, tt), refl, refl)
   all_tidied each (x ∷ xs) lawful whole =
       let one = each x lawful.0 whole.0 in
       let rest = all_tidied each xs lawful.1 whole.1 in
       (((one.lawful, rest.0.0), (one.whole, rest.0.1)), (λ i. one.zeros i ∷ rest.1 i), (λ i. one.bytes i ++ rest.2 i))
 
-  pub all_told : (S : R → R → Type 0) → ((x y : R) → L x → W x → L y → W y → tidy x ≡ tidy y → S x y) → (xs ys : List R) → All L xs → All W xs → All L ys → All W ys → map tidy xs ≡ map tidy ys → AllZip S xs ys
+  pub all_told : (S : R → R → Type 0) → ((x y : R) → L x → W x → L y → W y → tidy x ≡ tidy y → S x y) → (xs ys : List R) → AllByRecursion L xs → AllByRecursion W xs → AllByRecursion L ys → AllByRecursion W ys → map tidy xs ≡ map tidy ys → AllZip S xs ys
   all_told S each [] [] lx wx ly wy e = tt
   all_told S each [] (y ∷ ys) lx wx ly wy e = let no : ◌≡◌ {A = ℕ} 0 1 = cc in absurd (omega arith)
   all_told S each (x ∷ xs) [] lx wx ly wy e = let no : ◌≡◌ {A = ℕ} 0 1 = cc in absurd (omega arith)
@@ -149,6 +149,6 @@ told_tariff t u ht hu e =
     let w : ℕ = t.width in
     record {
       width = sym wide;
-      fares = all_told (LawfulFare w) WholeFare tidy_fare fare_bytes SameFare (told_fare w) t.fares u.fares ht.lawful.fares.each ht.whole.fares (subst (λ v. All (LawfulFare v) u.fares) wide hu.lawful.fares.each) hu.whole.fares (ap (λ (d : Tariff). d.fares) e);
-      terms = all_told (LawfulTerm w) WholeTerm tidy_term term_bytes SameTerm (told_term w) t.terms u.terms ht.lawful.terms.each ht.whole.terms (subst (λ v. All (LawfulTerm v) u.terms) wide hu.lawful.terms.each) hu.whole.terms (ap (λ (d : Tariff). d.terms) e);
+      fares = all_told (LawfulFare w) WholeFare tidy_fare fare_bytes SameFare (told_fare w) t.fares u.fares ht.lawful.fares.each ht.whole.fares (subst (λ v. AllByRecursion (LawfulFare v) u.fares) wide hu.lawful.fares.each) hu.whole.fares (ap (λ (d : Tariff). d.fares) e);
+      terms = all_told (LawfulTerm w) WholeTerm tidy_term term_bytes SameTerm (told_term w) t.terms u.terms ht.lawful.terms.each ht.whole.terms (subst (λ v. AllByRecursion (LawfulTerm v) u.terms) wide hu.lawful.terms.each) hu.whole.terms (ap (λ (d : Tariff). d.terms) e);
     }

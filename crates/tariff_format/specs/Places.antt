@@ -1,7 +1,7 @@
 -- The places of a tariff file where a number must stand: the bytes before each, the limits of its number, and its line. What
 -- stands before a place is right number by number, as it is tested: a list's count may be greater than the width has marks for.
 use Rattle.std.specs.Prelude.{◌≡◌, ℕ, ◌-◌, ◌<◌, ◌≤◌, List, [], ◌++◌, length, IfSome, Some, None, Option}
-use Rattle.std.specs.List.{flat_map, AllByRecursion as All}
+use Rattle.std.specs.List.{flat_map, AllByRecursion}
 use Rattle.lines.specs.declared.fare.FareLine.{FareLine}
 use Rattle.lines.specs.declared.list.MarkList.{MarkList}
 use Rattle.lines.specs.declared.term.Kind.{Kind}
@@ -140,6 +140,6 @@ abbrev pub FileReached : ℕ → ℕ → FilePlace → Type 0
 FileReached m n the_width = Unit {0}
 FileReached m n (the_fares w) = Within 1 512 w
 FileReached m n (the_terms w f) = Within 1 512 w × Within 0 1024 f
-FileReached m n (fare_line h fs at) = HasRoom m n h × All (TidyFare h.width) fs × (length fs < h.fares) × FareReached h.width at
+FileReached m n (fare_line h fs at) = HasRoom m n h × AllByRecursion (TidyFare h.width) fs × (length fs < h.fares) × FareReached h.width at
 FileReached m n (term_line h fs ts at) =
-    HasRoom m n h × (All (TidyFare h.width) fs × (length fs ≡ h.fares)) × All (TidyTerm h.width) ts × (length ts < h.terms) × TermReached h.width at
+    HasRoom m n h × (AllByRecursion (TidyFare h.width) fs × (length fs ≡ h.fares)) × AllByRecursion (TidyTerm h.width) ts × (length ts < h.terms) × TermReached h.width at

@@ -1,6 +1,6 @@
 -- Tariffs in the caller's memory, and when two tariffs are the same.
 use Rattle.std.specs.Prelude.{◌≡◌, length}
-use Rattle.std.specs.List.{AllZip, AllByRecursion as All}
+use Rattle.std.specs.List.{AllZip, AllByRecursion}
 use Rattle.lines.specs.declared.fare.FareLine.{FareLine}
 use Rattle.lines.specs.declared.list.MarkList.{MarkList}
 use Rattle.lines.specs.declared.term.TermLine.{TermLine}
@@ -19,8 +19,8 @@ abbrev pub WholeTerm : TermLine → Type 0
 WholeTerm l = WholeList l.conditions
 
 pub record WholeTariff (t : Tariff) : Type 0 where
-  pub fares : All WholeFare t.fares
-  pub terms : All WholeTerm t.terms
+  pub fares : AllByRecursion WholeFare t.fares
+  pub terms : AllByRecursion WholeTerm t.terms
 
 -- the same width, as many lines, and at each place lines that are equal in all used places
 pub record SameTariff (t u : Tariff) : Type 0 where

@@ -1,7 +1,7 @@
 -- How many bytes lawful lists, lines and files take at the most, and that a file takes as many.
 use Rattle.std.proofs.Common.{◌≡◌, ℕ, zero, suc, ◌+◌, ◌*◌, ◌<◌, ◌≤◌, List, [], ◌∷◌, length, replicate, IfSome, sym, refl, ◌∙◌, suc-mul, mul-suc, arith, length-append}
 use lib.ListN.{length-replicate}
-use Rattle.std.specs.List.{flat_map, AllByRecursion as All}
+use Rattle.std.specs.List.{flat_map, AllByRecursion}
 use Rattle.std.proofs.lemmas.List.{length-take}
 use Rattle.std.proofs.lemmas.Bool.Decides.{nat_tests}
 use Rattle.lines.specs.declared.fare.FareLine.{FareLine}
@@ -26,7 +26,7 @@ small_number n small = grind (arith, nat_tests)
 
 -- things of which each takes at most m bytes
 module _ {A : Type 0} (f : A → List ℕ) (P : A → Type 0) (m : ℕ) (each : (x : A) → P x → length (f x) ≤ m) where
-  joined_most : (xs : List A) → All P xs → length (flat_map f xs) ≤ m * length xs
+  joined_most : (xs : List A) → AllByRecursion P xs → length (flat_map f xs) ≤ m * length xs
   joined_most [] all = omega arith
   joined_most (x ∷ xs) all =
       let one = each x all.0 in
@@ -68,7 +68,7 @@ file_most t h =
     omega (arith, h.fares.few, h.terms.few, length_file t.width _ _ t.fares t.terms refl refl, length_three (encode t.width) (encode (length t.fares)) (encode (length t.terms)), length-append (flat_map fare_bytes t.fares) (flat_map term_bytes t.terms))
 
 -- the same thing many times
-all_replicate : {A : Type 0} (P : A → Type 0) (n : ℕ) (x : A) → P x → All P (replicate n x)
+all_replicate : {A : Type 0} (P : A → Type 0) (n : ℕ) (x : A) → P x → AllByRecursion P (replicate n x)
 all_replicate P zero x h = tt
 all_replicate P (suc n) x h = (h, all_replicate P n x h)
 

@@ -1,6 +1,6 @@
 // What has bytes of its own in a file, and such things one behind the other.
 ghost use Rattle.std.specs.Prelude.{◌≡◌, ℕ, ◌+◌, ◌^◌, ◌<◌, ◌≤◌, List, length};
-ghost use Rattle.std.specs.List.{flat_map, AllByRecursion as All};
+ghost use Rattle.std.specs.List.{flat_map, AllByRecursion};
 ghost use Rattle.tariff.specs.Numbers.{encode};
 ghost use Rattle.tariff.specs.Writings.{Written};
 
@@ -48,7 +48,7 @@ impl Encode for u16 {
 impl<'a, E: Encode> Encode for &'a [E] {
     ghost bytes = { λ items. flat_map E.Encode.bytes items.now };
 
-    ghost whole = { λ items. All E.Encode.whole items.now };
+    ghost whole = { λ items. AllByRecursion E.Encode.whole items.now };
 
     fn size(&self) -> usize {
         let mut total = 0;

@@ -3,7 +3,7 @@
 
 mod encode;
 pub mod file;
-mod lines;
+mod line_bytes;
 mod list;
 mod parts;
 pub mod theorems;

@@ -2,7 +2,7 @@ use Rattle.std.proofs.Common.{List, sym, refl, ◌∙◌, subst}
 use Rattle.std.proofs.ByRecursion.{All-get_or, All-more}
 use Rattle.std.proofs.lemmas.List.{take_all}
 use Rattle.std.proofs.lemmas.Bool.{false≢true}
-use Rattle.std.specs.List.{AllByRecursion as All}
+use Rattle.std.specs.List.{AllByRecursion}
 use Rattle.lines.proofs.check.all_lawful.Goals as goal
 
 pub loop-record-init : goal.loop-record-init
@@ -28,7 +28,7 @@ loop-record-preserved g c =
 pub returns : goal.returns
 returns g c = (
   (λ _.
-      subst (λ (rs : List g.row.R.Denot). All (g.R.Record.lawful c.args.width) rs)
+      subst (λ (rs : List g.row.R.Denot). AllByRecursion (g.R.Record.lawful c.args.width) rs)
       (take_all c.loop-record.record-index c.args.records.now c.loop-record-test.false) c.loop-record.invariant),
   λ _. refl,
 )

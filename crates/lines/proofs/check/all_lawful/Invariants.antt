@@ -1,6 +1,6 @@
 use Rattle.std.proofs.Common.{take}
-use Rattle.std.specs.List.{AllByRecursion as All}
+use Rattle.std.specs.List.{AllByRecursion}
 use Rattle.lines.proofs.check.all_lawful.Given as goal
 
 abbrev pub invariant-loop-record : goal.invariant-loop-record
-invariant-loop-record g l = All (g.R.Record.lawful l.width) (take l.record-index l.records)
+invariant-loop-record g l = AllByRecursion (g.R.Record.lawful l.width) (take l.record-index l.records)

@@ -1,7 +1,7 @@
 use Rattle.std.proofs.Common.{◌∙◌, subst, arith}
 use Rattle.std.proofs.ByRecursion.{All-more, All-weaker}
 use Rattle.std.proofs.lemmas.List.{take_all}
-use Rattle.std.specs.List.{AllByRecursion as All}
+use Rattle.std.specs.List.{AllByRecursion}
 use Rattle.marks.specs.MarkSets.{marks_of}
 use Rattle.settling.specs.Growth.{HeadIn}
 use Rattle.settling.proofs.Denying.{took_in}
@@ -25,5 +25,5 @@ returns c =
     record {
       width = c.loop-line.invariant.0;
       facts = c.loop-line.invariant.1;
-      heads = subst (All (HeadIn c.args.facts.now.width (marks_of c.loop-line.heads))) (take_all c.loop-line.line-index lines c.loop-line-test.false) c.loop-line.invariant.2;
+      heads = subst (AllByRecursion (HeadIn c.args.facts.now.width (marks_of c.loop-line.heads))) (take_all c.loop-line.line-index lines c.loop-line-test.false) c.loop-line.invariant.2;
     }

@@ -1,5 +1,5 @@
 use Rattle.std.proofs.Common.{◌≡◌, take}
-use Rattle.std.specs.List.{AllByRecursion as All}
+use Rattle.std.specs.List.{AllByRecursion}
 use Rattle.marks.specs.MarkSets.{marks_of}
 use Rattle.marks.specs.Sets.{◌⊆◌}
 use Rattle.settling.specs.Growth.{HeadIn}
@@ -9,4 +9,4 @@ abbrev pub invariant-loop-line : goal.invariant-loop-line
 invariant-loop-line l =
     (l.heads.width ≡ l.facts.width)
     × (marks_of l.facts ⊆ marks_of l.heads)
-    × All (HeadIn l.facts.width (marks_of l.heads)) (take l.line-index l.lines)
+    × AllByRecursion (HeadIn l.facts.width (marks_of l.heads)) (take l.line-index l.lines)

@@ -1,5 +1,5 @@
 use Rattle.std.proofs.Common.{List, subst, arith}
-use Rattle.std.specs.List.{flat_map, AllByRecursion as All}
+use Rattle.std.specs.List.{flat_map, AllByRecursion}
 use Rattle.std.proofs.ByRecursion.{All-more}
 use Rattle.std.proofs.lemmas.List.{take_all}
 use Rattle.tariff.specs.Writings.{Written}
@@ -29,5 +29,5 @@ returns g c =
     let all = take_all c.loop-item.item-index c.args.self.now.now c.loop-item-test.false in
     record {
       written = subst (λ l. Written c.args.out.now c.args.place (flat_map g.E.Encode.bytes l) c.loop-item.out c.loop-item.next) all c.loop-item.invariant.0;
-      whole = subst (λ (l : List g.row.E.Denot). All g.E.Encode.whole l) all c.loop-item.invariant.1;
+      whole = subst (λ (l : List g.row.E.Denot). AllByRecursion g.E.Encode.whole l) all c.loop-item.invariant.1;
     }
