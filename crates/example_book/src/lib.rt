@@ -1,7 +1,7 @@
 // A kind of book of one's own, as small as can be: some marks always hold.
 //
-// This is all that a kind owes: a meaning (specs/Always.antt), that it keeps the laws of books (proofs/AlwaysTerms/TheImpl), its
-// width, and closing. What is proved of every book then holds of it too; a barred book can stand on it, for instance.
+// This is all that a kind owes: a meaning (specs/Always.antt), that it keeps the laws of books (specs/Laws.antt), its width, and
+// closing. What is proved of every book then holds of it too; a barred book can stand on it, for instance.
 #![tactic(auto)]
 
 ghost use Rattle.example_book.specs.Always.{always};
