@@ -9,7 +9,7 @@ use Rattle.readings.specs.declared.answer.Answer.{Answer}
 use Rattle.readings.specs.declared.verdict.Verdict.{Verdict}
 use Rattle.readings.proofs.FirstRounds.{least_reading_unique}
 use Rattle.readings.proofs.Verdicts.{answer_once, one_verdict}
-use Rattle.tariff.specs.Facts.{FactsAre, FactsFault, FactsAnswer, facts_at}
+use Rattle.tariff.specs.Facts.{FactsAre, FactsFault, facts_at}
 use Rattle.tariff.specs.Numbers.{Bytes}
 use Rattle.tariff.specs.declared.fault.NumberFault.{NumberFault}
 use Rattle.tariff.proofs.Strings.{only_facts}
