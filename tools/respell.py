@@ -3,9 +3,9 @@
 
 usage: python3 tools/respell.py [--dry]     at the top of the repository, once, right after port.py
 
-A name with a dash is respelled where a crate's specs/ or a lemma file of its proofs/ declares it: Bad-width is BadWidth, marks-of is marks_of.
-Names that Rattle makes for goals and steps (Answers.antt, Invariants.antt, Choices.antt), names of std, functions of src/, strings and comments stay,
-but for names in backticks in a comment. A projection r.name is respelled only where name is a field of a record.
+A name with a dash is respelled where a crate's specs/ or a file of its proofs/ declares it: Bad-width is BadWidth, marks-of is marks_of.
+Names that Rattle makes for goals and steps (Answers.antt, Invariants.antt), names of std, functions of src/, strings and comments stay, but for
+names in backticks in a comment. A projection r.name is respelled only where name is a field of a record.
 """
 
 import collections
@@ -20,6 +20,7 @@ TOKEN = re.compile(r"(?<![\w'-])" + ID)
 MARKS = r"(?:(?:abbrev|unfoldable|pub|data|record|mutual)\s+)*"
 TOP = re.compile(r"^[ ]*" + MARKS + r"(" + ID + r"(?:[ ]+" + ID + r")*)[ ]*:(?!=)", re.M)
 HEAD = re.compile(r"^[ ]*" + MARKS + r"(?:data|record)[ ]+(?:pub[ ]+)?(" + ID + ")", re.M)
+HELPER = re.compile(r"^(?:(?:abbrev|pub)\s+)*([A-Za-z_][\w']*(?:-[\w']+)+)[ ]*:(?!=)(?![ ]*goal\.)", re.M)
 LOCAL = re.compile(r"[({](" + ID + r"(?:[ ]+" + ID + r")*)[ ]*:|\blet (" + ID + r")[ ]*[:=]")
 CODE = re.compile(r'("(?:\\.|[^"\\])*")|(--[^\n]*|//[^\n]*)')
 TICKED = re.compile(r"`[^`\n]*`")
@@ -38,9 +39,11 @@ def declared():
     """The names with a dash that the crates declare, and which of them are fields of records."""
     names, fields = collections.defaultdict(set), set()
     for p in files("crates/*/specs/**/*.antt") + files("crates/*/proofs/**/*.antt"):
-        if "/proofs/" in p and os.path.basename(p) in MADE:
-            continue
         text = re.sub(r"--.*", "", read(p))
+        if "/proofs/" in p and os.path.basename(p) in MADE:
+            for m in HELPER.finditer(text):
+                names[m.group(1)].add(p)
+            continue
         for m in TOP.finditer(text):
             for n in m.group(1).split():
                 if "-" in n:

@@ -6,8 +6,8 @@ use Rattle.tariff_format.specs.Lines.{held, list_at}
 use Rattle.tariff_reader.proofs.list.read_list.Goals as goal
 
 -- k places of eight zeros were filled
-list-there : (w : ℕ) (bs t : List ℕ) (p k q : ℕ) (ms : List ℕ) (n e : ℕ) → t ≡ bs → n ≡ k → length ms ≡ k → Ok (k, q) ≡ number_at 0 8 0 bs p → Ok (ms, e) ≡ marks_at w t n 0 q → Ok (record { count = k; marks = ms ++ drop k (replicate 8 0) }, e) ≡ list_at w bs p
-list-there w bs t p k q ms n e same few many count marks =
+list_there : (w : ℕ) (bs t : List ℕ) (p k q : ℕ) (ms : List ℕ) (n e : ℕ) → t ≡ bs → n ≡ k → length ms ≡ k → Ok (k, q) ≡ number_at 0 8 0 bs p → Ok (ms, e) ≡ marks_at w t n 0 q → Ok (record { count = k; marks = ms ++ drop k (replicate 8 0) }, e) ≡ list_at w bs p
+list_there w bs t p k q ms n e same few many count marks =
     let full : record { count = k; marks = ms ++ drop k (replicate 8 0) } ≡ held ms = (λ i. record { count = sym many i; marks = ms ++ (drop-replicate k 8 0 ∙ ap (λ j. replicate (8 - j) 0) (sym many)) i }) in
     ap (λ l. Ok (l, e)) full
     ∙ ap (mapped held) (marks ∙ (λ i. marks_at w (same i) (few i) 0 q))
@@ -22,5 +22,5 @@ returns c =
     let n : length (take c.in_ok-count.count zeros) ≡ c.in_ok-count.count = length-take-le c.in_ok-count.count zeros few in
     record {
       same = then.same ∙ first.same;
-      value = list-there c.args.width (text c.args.reader.now) (text c.number.new.self) c.args.reader.now.place c.in_ok-count.count c.number.new.self.place c.read_marks.new.places _ c.read_marks.new.reader.place first.same n (c.read_marks.auto.places ∙ n) first.value then.value;
+      value = list_there c.args.width (text c.args.reader.now) (text c.number.new.self) c.args.reader.now.place c.in_ok-count.count c.number.new.self.place c.read_marks.new.places _ c.read_marks.new.reader.place first.same n (c.read_marks.auto.places ∙ n) first.value then.value;
     }

@@ -19,9 +19,9 @@ module _ {A E : Type 0} where
 abbrev Counted : {A E : Type 0} → ℕ → Result (List A × ℕ) E → Type 0
 Counted n r = IfOk r (λ x. length x.0 ≡ n)
 
-length-many : {A E S : Type 0} (read : S → ℕ → Result (A × ℕ) E) (next : A → S → S) (n : ℕ) (s : S) (p : ℕ) → Counted n (many read next n s p)
-length-many read next zero s p = refl
-length-many {A} {E} read next (suc n) s p = first (read s p) (λ x q. length-many read next n (next x s) q)
+length_many : {A E S : Type 0} (read : S → ℕ → Result (A × ℕ) E) (next : A → S → S) (n : ℕ) (s : S) (p : ℕ) → Counted n (many read next n s p)
+length_many read next zero s p = refl
+length_many {A} {E} read next (suc n) s p = first (read s p) (λ x q. length_many read next n (next x s) q)
   where
     more : (x : A) (r : Result (List A × ℕ) E) → Counted n r → Counted (suc n) (mapped (λ xs. x ∷ xs) r)
     more x (Ok y) h = ap suc h
@@ -34,7 +34,7 @@ length-many {A} {E} read next (suc n) s p = first (read s p) (λ x q. length-man
 reads : {L E : Type 0} (line_at_lem : ℕ → ℕ → Result (L × ℕ) E) (n i p q : ℕ) → mapped (λ _. tt {0}) (many line_at_lem (λ _ j. j + 1) n i p) ≡ Ok (tt, q) → Reads (many line_at_lem (λ _ j. j + 1) n i p) n q
 reads line_at_lem n i p q h =
     let e = ends (many line_at_lem (λ _ j. j + 1) n i p) q h in
-    record { lines = e.0; count = subst (Counted n) e.1 (length-many line_at_lem (λ _ j. j + 1) n i p); value = e.1 }
+    record { lines = e.0; count = subst (Counted n) e.1 (length_many line_at_lem (λ _ j. j + 1) n i p); value = e.1 }
 
 pub loop-index-init : goal.loop-index-init
 loop-index-init g c = let all : c.args.count - 0 ≡ c.args.count = omega arith in (refl, ap (λ n. mapped (λ _. tt {0}) (lines_at (g.L.Line.reading c.args.width (text c.args.reader.now)) n 0 c.args.reader.now.place)) (sym all))

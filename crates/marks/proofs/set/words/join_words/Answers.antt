@@ -14,15 +14,15 @@ joined_at Union S S' X X' m k e f = cc
 joined_at Intersection S S' X X' m k e f = cc
 joined_at Difference S S' X X' m k e f = cc
 
-joined-none : (how : Join) (S S' : Marks) (m : ℕ) → S m ≡ false → S' m ≡ false → joined how S S' m ≡ false
-joined-none Union S S' m e f = cc
-joined-none Intersection S S' m e f = cc
-joined-none Difference S S' m e f = cc
+joined_none : (how : Join) (S S' : Marks) (m : ℕ) → S m ≡ false → S' m ≡ false → joined how S S' m ≡ false
+joined_none Union S S' m e f = cc
+joined_none Intersection S S' m e f = cc
+joined_none Difference S S' m e f = cc
 
-joined-inside : (how : Join) (w : ℕ) (S S' : Marks) → OfWidth w S → OfWidth w S' → OfWidth w (joined how S S')
-joined-inside Union w S S' f g = both_inside w S S' f g
-joined-inside Intersection w S S' f g = part_inside w S S' f
-joined-inside Difference w S S' f g = part_inside w S _ f
+joined_inside : (how : Join) (w : ℕ) (S S' : Marks) → OfWidth w S → OfWidth w S' → OfWidth w (joined how S S')
+joined_inside Union w S S' f g = both_inside w S S' f g
+joined_inside Intersection w S S' f g = part_inside w S S' f
+joined_inside Difference w S S' f g = part_inside w S _ f
 
 pub loop-i-preserved : goal.loop-i-preserved
 loop-i-preserved c =
@@ -40,5 +40,5 @@ returns c =
     let how = c.args.how in
     let e : held c.loop-i.out ≡ joined how (held a) (held b) =
     filled_held (joined how (held a) (held b)) c.loop-i.out c.loop-i.i (omega arith) c.loop-i.invariant
-    (λ m h. joined-none how (held a) (held b) m (held_past a m (omega arith)) (held_past b m (omega arith))) in
-    record { marks = e; inside = λ w f g. subst (λ (S : Marks). OfWidth w S) (sym e) (joined-inside how w (held a) (held b) f g) }
+    (λ m h. joined_none how (held a) (held b) m (held_past a m (omega arith)) (held_past b m (omega arith))) in
+    record { marks = e; inside = λ w f g. subst (λ (S : Marks). OfWidth w S) (sym e) (joined_inside how w (held a) (held b) f g) }
