@@ -3,3 +3,5 @@ pub mod Sets
 pub mod Sizes
 pub mod Words
 pub mod Overlaps
+pub mod Joins
+pub mod Refusals

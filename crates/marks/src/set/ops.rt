@@ -1,14 +1,16 @@
 // The calls on a set of marks.
-ghost use Rattle.std.specs.Prelude.{◌≡◌, ◌<◌, ◌≤◌, IfSome, Decides, ◌≢◌};
+ghost use Rattle.std.specs.Prelude.{Bool, ◌≡◌, ◌<◌, ◌≤◌, IfSome, Decides, ◌≢◌};
 ghost use Rattle.marks.specs.MarkSets.{marks_of, BadWidth, IsSet, Unchanged};
+ghost use Rattle.marks.specs.Joins.{joined, Bitwise};
 ghost use Rattle.marks.specs.Overlaps.{Overlaps};
 ghost use Rattle.marks.specs.Refusals.{Refuses, Gives, Test};
 ghost use Rattle.marks.specs.Sets.{◌⊆◌, no_marks, below, with_mark, without_mark, ◌∪◌, ◌∩◌, ◌∖◌, size, Next};
+ghost use Rattle.marks.specs.Words.{held};
 
 use super::MarkSet;
 use super::words::{
-    Join, count_marks, count_overlap, has_mark, join_words, next_mark, no_words, put_mark,
-    take_mark, words_below, words_same, words_within,
+    count_marks, count_overlap, has_mark, join_words, next_mark, no_words, put_mark, take_mark,
+    words_below, words_same, words_within,
 };
 use crate::overlap::Overlap;
 use crate::refusal::Refusal;
@@ -22,6 +24,14 @@ impl MarkSet {
             return Err(Refusal::Width);
         }
         Ok(())
+    }
+
+    fn join<F: Fn(u64, u64) -> u64>(&self, other: &MarkSet, op: F) -> Result<[u64; 8], Refusal>
+        requires { F.IsAlwaysCallable op }
+        ensures { Test (self.now.width ≢ other.now.width) (Refuses result 7) (Gives result (λ ws. (on : Bool → Bool → Bool) → Bitwise (F.post op) on → held ws ≡ joined on (marks_of self.now) (marks_of other.now))) }
+    {
+        self.same_width(other)?;
+        Ok(join_words(&self.words, &other.words, op))
     }
 
     // The set of no marks.
@@ -79,8 +89,7 @@ impl MarkSet {
     pub fn union_with(&mut self, other: &MarkSet) -> Result<(), Refusal>
         ensures { Test (self.old.width ≢ other.now.width) (Refuses result 7 × Unchanged self.old self.new) (Gives result (λ _. IsSet self.new self.old.width (marks_of self.old ∪ marks_of other.now))) }
     {
-        self.same_width(other)?;
-        self.words = join_words(Join::Union, &self.words, &other.words);
+        self.words = self.join(other, |a, b| a | b)?;
         Ok(())
     }
 
@@ -88,8 +97,7 @@ impl MarkSet {
     pub fn intersect_with(&mut self, other: &MarkSet) -> Result<(), Refusal>
         ensures { Test (self.old.width ≢ other.now.width) (Refuses result 7 × Unchanged self.old self.new) (Gives result (λ _. IsSet self.new self.old.width (marks_of self.old ∩ marks_of other.now))) }
     {
-        self.same_width(other)?;
-        self.words = join_words(Join::Intersection, &self.words, &other.words);
+        self.words = self.join(other, |a, b| a & b)?;
         Ok(())
     }
 
@@ -97,8 +105,7 @@ impl MarkSet {
     pub fn subtract(&mut self, other: &MarkSet) -> Result<(), Refusal>
         ensures { Test (self.old.width ≢ other.now.width) (Refuses result 7 × Unchanged self.old self.new) (Gives result (λ _. IsSet self.new self.old.width (marks_of self.old ∖ marks_of other.now))) }
     {
-        self.same_width(other)?;
-        self.words = join_words(Join::Difference, &self.words, &other.words);
+        self.words = self.join(other, |a, b| a & !b)?;
         Ok(())
     }
 
