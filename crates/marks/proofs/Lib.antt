@@ -4,4 +4,3 @@ pub mod Sizes
 pub mod Words
 pub mod Overlaps
 pub mod Joins
-pub mod Refusals

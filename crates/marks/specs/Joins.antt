@@ -7,7 +7,13 @@ use Rattle.marks.specs.Words.{bit}
 abbrev pub joined : (Bool → Bool → Bool) → Marks → Marks → Marks
 joined on S S' m = on (S m) (S' m)
 
--- an operation on words, told by what it gives for two of them, does `on` bit by bit, and `on` gives no mark that neither set holds
-pub record Bitwise (gives : ℕ → ℕ → ℕ → Type 0) (on : Bool → Bool → Bool) : Type 0 where
-  pub bits : (a b r k : ℕ) → a < 2 ^ 64 → b < 2 ^ 64 → gives a b r → k < 64 → bit r k ≡ on (bit a k) (bit b k)
+-- an operation on words that does `on` with each bit, and makes no mark of none
+pub record BitOp : Type 0 where
+  pub word : ℕ → ℕ → ℕ
+  pub on : Bool → Bool → Bool
+  pub bits : (a b k : ℕ) → a < 2 ^ 64 → b < 2 ^ 64 → k < 64 → bit (word a b) k ≡ on (bit a k) (bit b k)
   pub none : on false false ≡ false
+
+-- a closure, told by what it may give for two words, computes `word`
+abbrev pub Computes : (ℕ → ℕ → ℕ → Type 0) → (ℕ → ℕ → ℕ) → Type 0
+Computes gives word = (a b r : ℕ) → a < 2 ^ 64 → b < 2 ^ 64 → gives a b r → r ≡ word a b

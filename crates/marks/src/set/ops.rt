@@ -1,11 +1,10 @@
 // The calls on a set of marks.
-ghost use Rattle.std.specs.Prelude.{Bool, ◌≡◌, ◌<◌, ◌≤◌, IfSome, Decides, ◌≢◌};
+ghost use Rattle.std.specs.Prelude.{◌≡◌, ◌<◌, ◌≤◌, IfSome, Decides, ◌≢◌};
 ghost use Rattle.marks.specs.MarkSets.{marks_of, BadWidth, IsSet, Unchanged};
-ghost use Rattle.marks.specs.Joins.{joined, Bitwise};
+ghost use Rattle.marks.specs.Joins.{joined, BitOp, Computes};
 ghost use Rattle.marks.specs.Overlaps.{Overlaps};
 ghost use Rattle.marks.specs.Refusals.{Refuses, Gives, Test};
 ghost use Rattle.marks.specs.Sets.{◌⊆◌, no_marks, below, with_mark, without_mark, ◌∪◌, ◌∩◌, ◌∖◌, size, Next};
-ghost use Rattle.marks.specs.Words.{held};
 
 use super::MarkSet;
 use super::words::{
@@ -26,12 +25,15 @@ impl MarkSet {
         Ok(())
     }
 
-    fn join<F: Fn(u64, u64) -> u64>(&self, other: &MarkSet, op: F) -> Result<[u64; 8], Refusal>
-        requires { F.IsAlwaysCallable op }
-        ensures { Test (self.now.width ≢ other.now.width) (Refuses result 7) (Gives result (λ ws. (on : Bool → Bool → Bool) → Bitwise (F.post op) on → held ws ≡ joined on (marks_of self.now) (marks_of other.now))) }
+    fn join<F: Fn(u64, u64) -> u64>(&mut self, other: &MarkSet, op: F) -> Result<(), Refusal>
+        ghost by: { BitOp }
+        requires callable { F.IsAlwaysCallable op }
+        requires computes { Computes (F.post op) by.word }
+        ensures { Test (self.old.width ≢ other.now.width) (Refuses result 7 × Unchanged self.old self.new) (Gives result (λ _. IsSet self.new self.old.width (joined by.on (marks_of self.old) (marks_of other.now)))) }
     {
         self.same_width(other)?;
-        Ok(join_words(&self.words, &other.words, op))
+        self.words = join_words(&self.words, &other.words, op);
+        Ok(())
     }
 
     // The set of no marks.
@@ -89,24 +91,21 @@ impl MarkSet {
     pub fn union_with(&mut self, other: &MarkSet) -> Result<(), Refusal>
         ensures { Test (self.old.width ≢ other.now.width) (Refuses result 7 × Unchanged self.old self.new) (Gives result (λ _. IsSet self.new self.old.width (marks_of self.old ∪ marks_of other.now))) }
     {
-        self.words = self.join(other, |a, b| a | b)?;
-        Ok(())
+        self.join(other, |a, b| a | b)
     }
 
     // Keeps the marks that the other set holds too.
     pub fn intersect_with(&mut self, other: &MarkSet) -> Result<(), Refusal>
         ensures { Test (self.old.width ≢ other.now.width) (Refuses result 7 × Unchanged self.old self.new) (Gives result (λ _. IsSet self.new self.old.width (marks_of self.old ∩ marks_of other.now))) }
     {
-        self.words = self.join(other, |a, b| a & b)?;
-        Ok(())
+        self.join(other, |a, b| a & b)
     }
 
     // Takes out the marks of the other set.
     pub fn subtract(&mut self, other: &MarkSet) -> Result<(), Refusal>
         ensures { Test (self.old.width ≢ other.now.width) (Refuses result 7 × Unchanged self.old self.new) (Gives result (λ _. IsSet self.new self.old.width (marks_of self.old ∖ marks_of other.now))) }
     {
-        self.words = self.join(other, |a, b| a & !b)?;
-        Ok(())
+        self.join(other, |a, b| a & !b)
     }
 
     // Whether every mark of the set is one of the other's.

@@ -1,7 +1,7 @@
 // The words of a set: a mark put in or taken out, two sets joined, compared or searched, word by word.
-ghost use Rattle.std.specs.Prelude.{Bool, ◌≡◌, ℕ, ◌+◌, ◌*◌, ◌<◌, ◌≤◌, IfSome, Decides, nat_lt};
+ghost use Rattle.std.specs.Prelude.{◌≡◌, ℕ, ◌+◌, ◌*◌, ◌<◌, ◌≤◌, IfSome, Decides, nat_lt};
 ghost use Rattle.marks.specs.Sets.{◌⊆◌, no_marks, below, OfWidth, with_mark, without_mark, size, Next};
-ghost use Rattle.marks.specs.Joins.{joined, Bitwise};
+ghost use Rattle.marks.specs.Joins.{joined, BitOp, Computes};
 ghost use Rattle.marks.specs.Overlaps.{Overlaps};
 ghost use Rattle.marks.specs.Words.{bit, held};
 
@@ -62,10 +62,13 @@ pub(super) fn take_mark(words: &mut [u64; 8], m: u16)
     words[(m / 64) as usize] &= !(1 << (m % 64));
 }
 
-// Two sets joined word by word: an operation that does `on` with each bit does it with each mark.
+// Two sets joined word by word, by an operation that does `by.on` with each bit.
 pub(super) fn join_words<F: Fn(u64, u64) -> u64>(a: &[u64; 8], b: &[u64; 8], op: F) -> [u64; 8]
-    requires { F.IsAlwaysCallable op }
-    ensures { (on : Bool → Bool → Bool) → Bitwise (F.post op) on → held result ≡ joined on (held a.now) (held b.now) }
+    ghost by: { BitOp }
+    requires callable { F.IsAlwaysCallable op }
+    requires computes { Computes (F.post op) by.word }
+    ensures marks { held result ≡ joined by.on (held a.now) (held b.now) }
+    ensures inside { (w : ℕ) → OfWidth w (held a.now) → OfWidth w (held b.now) → OfWidth w (held result) }
 {
     std::array::from_fn(|i| op(a[i], b[i]))
 }
