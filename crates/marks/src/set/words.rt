@@ -76,23 +76,13 @@ pub(super) fn join_words<F: Fn(u64, u64) -> u64>(a: &[u64; 8], b: &[u64; 8], op:
 pub(super) fn words_within(a: &[u64; 8], b: &[u64; 8]) -> bool
     ensures { Decides result (held a.now ⊆ held b.now) }
 {
-    for i in 0..8 {
-        if a[i] & !b[i] != 0 {
-            return false;
-        }
-    }
-    true
+    a.iter().zip(b).all(|(x, y)| x & !y == 0)
 }
 
 pub(super) fn words_same(a: &[u64; 8], b: &[u64; 8]) -> bool
     ensures { Decides result (held a.now ≡ held b.now) }
 {
-    for i in 0..8 {
-        if a[i] != b[i] {
-            return false;
-        }
-    }
-    true
+    a == b
 }
 
 // The lowest mark at or after `at`, found by the zeros below it in its word.
@@ -119,11 +109,7 @@ pub(super) fn count_marks(words: &[u64; 8], width: u16) -> u16
     requires inside { OfWidth width (held words.now) }
     ensures { result ≡ size width (held words.now) }
 {
-    let mut n = 0;
-    for w in words {
-        n += w.count_ones() as u16;
-    }
-    n
+    words.iter().map(|w| w.count_ones() as u16).sum()
 }
 
 // The share of one word; `used` has the marks in use.
