@@ -4,5 +4,6 @@
 
 pub mod answer;
 pub mod method;
+pub mod reading;
 pub mod theorems;
 pub mod verdict;
