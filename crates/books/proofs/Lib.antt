@@ -1,3 +1,2 @@
-pub mod Tables
 pub mod Members
 pub mod Barring
