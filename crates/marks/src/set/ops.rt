@@ -12,15 +12,23 @@ use super::words::{
 };
 use crate::overlap::Overlap;
 use crate::refusal::Refusal;
+use crate::width::check_width;
 
 impl MarkSet {
+    fn same_width(&self, other: &MarkSet) -> Result<(), Refusal>
+        ensures { Test (self.now.width ≢ other.now.width) (Refuses result 7) (Gives result (λ _. self.now.width ≡ other.now.width)) }
+    {
+        if self.width != other.width {
+            return Err(Refusal::Width);
+        }
+        Ok(())
+    }
+
     // The set of no marks.
     pub fn empty(width: u16) -> Result<MarkSet, Refusal>
         ensures { Test (BadWidth width) (Refuses result 7) (Gives result (λ s. IsSet s width no_marks)) }
     {
-        if width < 1 || width > 512 {
-            return Err(Refusal::Width);
-        }
+        check_width(width)?;
         Ok(MarkSet {
             width,
             words: no_words(),
@@ -31,9 +39,7 @@ impl MarkSet {
     pub fn full(width: u16) -> Result<MarkSet, Refusal>
         ensures { Test (BadWidth width) (Refuses result 7) (Gives result (λ s. IsSet s width (below width))) }
     {
-        if width < 1 || width > 512 {
-            return Err(Refusal::Width);
-        }
+        check_width(width)?;
         Ok(MarkSet {
             width,
             words: words_below(width),
@@ -73,9 +79,7 @@ impl MarkSet {
     pub fn union_with(&mut self, other: &MarkSet) -> Result<(), Refusal>
         ensures { Test (self.old.width ≢ other.now.width) (Refuses result 7 × Unchanged self.old self.new) (Gives result (λ _. IsSet self.new self.old.width (marks_of self.old ∪ marks_of other.now))) }
     {
-        if self.width != other.width {
-            return Err(Refusal::Width);
-        }
+        self.same_width(other)?;
         self.words = join_words(Join::Union, &self.words, &other.words);
         Ok(())
     }
@@ -84,9 +88,7 @@ impl MarkSet {
     pub fn intersect_with(&mut self, other: &MarkSet) -> Result<(), Refusal>
         ensures { Test (self.old.width ≢ other.now.width) (Refuses result 7 × Unchanged self.old self.new) (Gives result (λ _. IsSet self.new self.old.width (marks_of self.old ∩ marks_of other.now))) }
     {
-        if self.width != other.width {
-            return Err(Refusal::Width);
-        }
+        self.same_width(other)?;
         self.words = join_words(Join::Intersection, &self.words, &other.words);
         Ok(())
     }
@@ -95,9 +97,7 @@ impl MarkSet {
     pub fn subtract(&mut self, other: &MarkSet) -> Result<(), Refusal>
         ensures { Test (self.old.width ≢ other.now.width) (Refuses result 7 × Unchanged self.old self.new) (Gives result (λ _. IsSet self.new self.old.width (marks_of self.old ∖ marks_of other.now))) }
     {
-        if self.width != other.width {
-            return Err(Refusal::Width);
-        }
+        self.same_width(other)?;
         self.words = join_words(Join::Difference, &self.words, &other.words);
         Ok(())
     }
@@ -106,9 +106,7 @@ impl MarkSet {
     pub fn is_subset(&self, other: &MarkSet) -> Result<bool, Refusal>
         ensures { Test (self.now.width ≢ other.now.width) (Refuses result 7) (Gives result (λ b. Decides b (marks_of self.now ⊆ marks_of other.now))) }
     {
-        if self.width != other.width {
-            return Err(Refusal::Width);
-        }
+        self.same_width(other)?;
         Ok(words_within(&self.words, &other.words))
     }
 
@@ -116,9 +114,7 @@ impl MarkSet {
     pub fn same_marks(&self, other: &MarkSet) -> Result<bool, Refusal>
         ensures { Test (self.now.width ≢ other.now.width) (Refuses result 7) (Gives result (λ b. Decides b (marks_of self.now ≡ marks_of other.now))) }
     {
-        if self.width != other.width {
-            return Err(Refusal::Width);
-        }
+        self.same_width(other)?;
         Ok(words_same(&self.words, &other.words))
     }
 
@@ -141,9 +137,7 @@ impl MarkSet {
     pub fn overlap(&self, other: &MarkSet) -> Result<Overlap, Refusal>
         ensures { Test (self.now.width ≢ other.now.width) (Refuses result 7) (Gives result (Overlaps self.now.width (below self.now.width) (marks_of self.now) (marks_of other.now))) }
     {
-        if self.width != other.width {
-            return Err(Refusal::Width);
-        }
+        self.same_width(other)?;
         Ok(count_overlap(&self.words, &other.words, self.width))
     }
 }
