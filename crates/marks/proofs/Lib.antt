@@ -3,3 +3,4 @@ pub mod Sets
 pub mod Sizes
 pub mod Words
 pub mod Overlaps
+pub mod Joins

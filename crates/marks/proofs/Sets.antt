@@ -1,6 +1,7 @@
 -- Sets of marks as tests of numbers.
 use Rattle.std.proofs.Common.{◌≡◌, ℕ, ◌<◌, ◌≤◌, Bool, true, false, not, ◌&&◌, ◌||◌, T, eqb, sym, refl, subst, arith, eqb→eq, ltb→lt, lt→ltb}
 use mathlib.Core.Path.{fun_ext}
+use Rattle.marks.specs.Joins.{joined}
 use Rattle.marks.specs.Sets.{Marks, ◌∈◌, ◌⊆◌, below, OfWidth, with_mark, without_mark, ◌∪◌, ◌∩◌}
 
 -- a test that came out true, and one that cannot
@@ -54,6 +55,14 @@ both_inside w S S' f g m = go (S m) (f m) (g m)
     go : (b : Bool) → (T b → m ∈ below w) → (m ∈ S' → m ∈ below w) → T (b || S' m) → m ∈ below w
     go true f g t = f tt
     go false f g t = g t
+
+pub joined_inside : (on : Bool → Bool → Bool) → on false false ≡ false → (w : ℕ) (S S' : Marks) → OfWidth w S → OfWidth w S' → OfWidth w (joined on S S')
+joined_inside on none w S S' f g m = go (S m) (S' m) (f m) (g m)
+  where
+    go : (a b : Bool) → (T a → m ∈ below w) → (T b → m ∈ below w) → T (on a b) → m ∈ below w
+    go true b f g t = f tt
+    go false true f g t = g tt
+    go false false f g t = absurd (fails none t)
 
 -- a set cut down by a test
 pub part_inside : (w : ℕ) (S S' : Marks) → OfWidth w S → OfWidth w (S ∩ S')

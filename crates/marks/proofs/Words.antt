@@ -1,5 +1,5 @@
 -- The marks that words hold: after a write, a word at a time, from a place on.
-use Rattle.std.proofs.Common.{◌≡◌, ℕ, zero, suc, ◌+◌, ◌-◌, ◌*◌, ◌/◌, ◌%◌, ◌^◌, ◌<◌, ◌≤◌, Bool, true, false, cond, not, ◌&&◌, ◌||◌, T, eqb, ◌⊎◌, List, length, get_or, set, replicate, sym, refl, ap, ◌∙◌, ap₂, inl, inr, ⊎_elim, arith, length-set, get_or-set_other, get_or-set_same}
+use Rattle.std.proofs.Common.{◌≡◌, ℕ, zero, suc, ◌+◌, ◌-◌, ◌*◌, ◌/◌, ◌%◌, ◌^◌, ◌<◌, ◌≤◌, Bool, true, false, cond, not, ◌&&◌, ◌||◌, T, eqb, ◌⊎◌, List, length, get_or, set, replicate, sym, refl, ap, ◌∙◌, ap₂, subst, inl, inr, ⊎_elim, arith, get_or-set_other, get_or-set_same}
 use mathlib.Core.Path.{fun_ext}
 use lib.Bits.{bit_and, bit_or, and_le_l}
 use lib.Count.{ones, count_trailing_zeros}
@@ -7,6 +7,8 @@ use lib.ListN.{get_or-eq_default}
 use Rattle.std.proofs.lemmas.Nat.{one_shl, shr_le}
 use Rattle.std.proofs.lemmas.Bool.{cases_eq, cases_lt, eq-eqb, ne_eqb, both_ways}
 use Rattle.std.proofs.lemmas.Bool.Decides.{nat_tests}
+use Rattle.std.specs.Array.{IsFromFnResult, IsFromFnResultFrom}
+use denote.Param.Members.{Mut, Called}
 use Rattle.marks.specs.Sets.{Marks, ◌∈◌, no_marks, with_mark, without_mark, size}
 use Rattle.marks.specs.Words.{bit, held}
 use Rattle.marks.proofs.Bits.{bit_zero, bit_of_and, bit_of_or, bit_pow, bit_not, bit_shr, bit_high, bits_eq, trailing_at, trailing_below, trailing_some}
@@ -82,27 +84,25 @@ held_take ws m h = fun_ext (λ k. held_remove ws m k h)
 pub held_word : (ws : List ℕ) (i k : ℕ) → k < 64 → held ws (64 * i + k) ≡ bit (get_or ws i 0) k
 held_word ws i k l = ap₂ (λ (x y : ℕ). bit (get_or ws x 0) y) (omega arith) (omega arith)
 
--- the first i of eight words hold the marks of S
-pub record Filled (S : Marks) (ws : List ℕ) (i : ℕ) : Type 0 where
-  pub eight : length ws ≡ 8
-  pub words : (j k : ℕ) → j < i → k < 64 → bit (get_or ws j 0) k ≡ S (64 * j + k)
+-- eight words, each made by a call at its index, hold the marks of S if each call gives the marks of its word
+module _ {F : Type 0} (g : Mut F (ℕ × Unit {0}) ℕ) (f : F) (S : Marks) (ws : List ℕ)
+    (step : (i v : ℕ) (f' : F) → Called g f (i, tt) v f' → (f' ≡ f) × ((k : ℕ) → k < 64 → bit v k ≡ S (64 * i + k))) where
+  made_from : (n i : ℕ) → IsFromFnResultFrom g f ws i n → (j k : ℕ) → i ≤ j → j < i + n → k < 64 → bit (get_or ws j 0) k ≡ S (64 * j + k)
+  made_from zero i all j k h l b = absurd (omega arith)
+  made_from (suc n) i (f', v, at, call, all) j k h l b =
+      let one = step i v f' call in
+      ⊎_elim (λ e. ap (λ (x : ℕ). bit (get_or ws x 0) k) e ∙ ap (λ (x : ℕ). bit x k) (at.1 0) ∙ one.1 k b ∙ ap (λ (x : ℕ). S (64 * x + k)) (sym e))
+      (λ ne. made_from n (i + 1) (subst (λ (p : F). IsFromFnResultFrom g p ws (i + 1) n) one.0 all) j k (omega arith) (omega arith) b)
+      (cases_eq j i)
 
-pub filled_more : (S : Marks) (ws : List ℕ) (i v : ℕ) → i < 8 → Filled S ws i → ((k : ℕ) → k < 64 → bit v k ≡ S (64 * i + k)) → Filled S (set ws i v) (i + 1)
-filled_more S ws i v h f new = record { eight = simp length-set f.eight; words = λ j k l b. go j k l b (cases_eq j i) }
-  where
-    go : (j k : ℕ) → j < i + 1 → k < 64 → (j ≡ i) ⊎ (j ≡ i → ⊥) → bit (get_or (set ws i v) j 0) k ≡ S (64 * j + k)
-    go j k l b (inl e) =
-        let n = f.eight in
-        ap (λ (x : ℕ). bit (get_or (set ws i v) x 0) k) e ∙ ap (λ (x : ℕ). bit x k) (get_or-set_same ws i v 0 (omega arith))
-        ∙ new k b ∙ ap (λ (x : ℕ). S (64 * x + k)) (sym e)
-    go j k l b (inr ne) = ap (λ (x : ℕ). bit x k) (get_or-set_other ws i j v 0 ne) ∙ f.words j k (omega arith) b
+  pub made_held : IsFromFnResult g f ws 8 → ((m : ℕ) → 512 ≤ m → S m ≡ false) → held ws ≡ S
+  made_held all none = fun_ext (λ m. ⊎_elim (below m) (past m) (cases_lt m 512))
+    where
+      below : (m : ℕ) → m < 512 → held ws m ≡ S m
+      below m l = made_from 8 0 all.each (m / 64) (m % 64) (omega arith) (omega arith) (omega arith) ∙ ap S (let e : 64 * (m / 64) + m % 64 ≡ m = omega arith in e)
 
-pub filled_held : (S : Marks) (ws : List ℕ) (i : ℕ) → 8 ≤ i → Filled S ws i → ((m : ℕ) → 512 ≤ m → S m ≡ false) → held ws ≡ S
-filled_held S ws i all f none = fun_ext (λ m. go m (cases_lt m 512))
-  where
-    go : (m : ℕ) → (m < 512) ⊎ (512 ≤ m) → held ws m ≡ S m
-    go m (inl l) = f.words (m / 64) (m % 64) (omega arith) (omega arith) ∙ ap S (let e : 64 * (m / 64) + m % 64 ≡ m = omega arith in e)
-    go m (inr h) = let n = f.eight in held_past ws m (omega arith) ∙ sym (none m h)
+      past : (m : ℕ) → 512 ≤ m → held ws m ≡ S m
+      past m h = let n = all.long in held_past ws m (omega arith) ∙ sym (none m h)
 
 -- two sets with the same words hold the same
 pub same_held : (xs ys : List ℕ) (n : ℕ) → length xs ≤ n → length ys ≤ n → ((i : ℕ) → i < n → get_or xs i 0 ≡ get_or ys i 0) → held xs ≡ held ys

@@ -1,14 +1,15 @@
 // The calls on a set of marks.
 ghost use Rattle.std.specs.Prelude.{◌≡◌, ◌<◌, ◌≤◌, IfSome, Decides, ◌≢◌};
 ghost use Rattle.marks.specs.MarkSets.{marks_of, BadWidth, IsSet, Unchanged};
+ghost use Rattle.marks.specs.Joins.{joined, BitOp, Computes};
 ghost use Rattle.marks.specs.Overlaps.{Overlaps};
 ghost use Rattle.marks.specs.Refusals.{Refuses, Gives, Test};
 ghost use Rattle.marks.specs.Sets.{◌⊆◌, no_marks, below, with_mark, without_mark, ◌∪◌, ◌∩◌, ◌∖◌, size, Next};
 
 use super::MarkSet;
 use super::words::{
-    Join, count_marks, count_overlap, has_mark, join_words, next_mark, no_words, put_mark,
-    take_mark, words_below, words_same, words_within,
+    count_marks, count_overlap, has_mark, join_words, next_mark, no_words, put_mark, take_mark,
+    words_below, words_same, words_within,
 };
 use crate::overlap::Overlap;
 use crate::refusal::Refusal;
@@ -21,6 +22,17 @@ impl MarkSet {
         if self.width != other.width {
             return Err(Refusal::Width);
         }
+        Ok(())
+    }
+
+    fn join<F: Fn(u64, u64) -> u64>(&mut self, other: &MarkSet, op: F) -> Result<(), Refusal>
+        ghost by: { BitOp }
+        requires callable { F.IsAlwaysCallable op }
+        requires computes { Computes (F.post op) by.word }
+        ensures { Test (self.old.width ≢ other.now.width) (Refuses result 7 × Unchanged self.old self.new) (Gives result (λ _. IsSet self.new self.old.width (joined by.on (marks_of self.old) (marks_of other.now)))) }
+    {
+        self.same_width(other)?;
+        self.words = join_words(&self.words, &other.words, op);
         Ok(())
     }
 
@@ -79,27 +91,21 @@ impl MarkSet {
     pub fn union_with(&mut self, other: &MarkSet) -> Result<(), Refusal>
         ensures { Test (self.old.width ≢ other.now.width) (Refuses result 7 × Unchanged self.old self.new) (Gives result (λ _. IsSet self.new self.old.width (marks_of self.old ∪ marks_of other.now))) }
     {
-        self.same_width(other)?;
-        self.words = join_words(Join::Union, &self.words, &other.words);
-        Ok(())
+        self.join(other, |a, b| a | b)
     }
 
     // Keeps the marks that the other set holds too.
     pub fn intersect_with(&mut self, other: &MarkSet) -> Result<(), Refusal>
         ensures { Test (self.old.width ≢ other.now.width) (Refuses result 7 × Unchanged self.old self.new) (Gives result (λ _. IsSet self.new self.old.width (marks_of self.old ∩ marks_of other.now))) }
     {
-        self.same_width(other)?;
-        self.words = join_words(Join::Intersection, &self.words, &other.words);
-        Ok(())
+        self.join(other, |a, b| a & b)
     }
 
     // Takes out the marks of the other set.
     pub fn subtract(&mut self, other: &MarkSet) -> Result<(), Refusal>
         ensures { Test (self.old.width ≢ other.now.width) (Refuses result 7 × Unchanged self.old self.new) (Gives result (λ _. IsSet self.new self.old.width (marks_of self.old ∖ marks_of other.now))) }
     {
-        self.same_width(other)?;
-        self.words = join_words(Join::Difference, &self.words, &other.words);
-        Ok(())
+        self.join(other, |a, b| a & !b)
     }
 
     // Whether every mark of the set is one of the other's.

@@ -1,7 +1,7 @@
 // The words of a set: a mark put in or taken out, two sets joined, compared or searched, word by word.
 ghost use Rattle.std.specs.Prelude.{◌≡◌, ℕ, ◌+◌, ◌*◌, ◌<◌, ◌≤◌, IfSome, Decides, nat_lt};
 ghost use Rattle.marks.specs.Sets.{◌⊆◌, no_marks, below, OfWidth, with_mark, without_mark, size, Next};
-ghost use Rattle.marks.specs.Joins.{joined};
+ghost use Rattle.marks.specs.Joins.{joined, BitOp, Computes};
 ghost use Rattle.marks.specs.Overlaps.{Overlaps};
 ghost use Rattle.marks.specs.Words.{bit, held};
 
@@ -36,11 +36,7 @@ pub(super) fn words_below(width: u16) -> [u64; 8]
     ensures marks { held result ≡ below width }
     ensures inside { OfWidth width (held result) }
 {
-    let mut words = [0; 8];
-    for i in 0..8 {
-        words[i] = word_below(width, i);
-    }
-    words
+    std::array::from_fn(|i| word_below(width, i))
 }
 
 pub(super) fn has_mark(words: &[u64; 8], m: u16) -> bool
@@ -66,33 +62,15 @@ pub(super) fn take_mark(words: &mut [u64; 8], m: u16)
     words[(m / 64) as usize] &= !(1 << (m % 64));
 }
 
-// How two sets are joined.
-#[derive(Clone, Copy)]
-pub(super) enum Join {
-    Union,
-    Intersection,
-    Difference,
-}
-
-fn join_word(how: Join, a: u64, b: u64) -> u64
-    ensures { (k : ℕ) → k < 64 → bit result k ≡ joined how (bit a) (bit b) k }
-{
-    match how {
-        Join::Union => a | b,
-        Join::Intersection => a & b,
-        Join::Difference => a & !b,
-    }
-}
-
-pub(super) fn join_words(how: Join, a: &[u64; 8], b: &[u64; 8]) -> [u64; 8]
-    ensures marks { held result ≡ joined how (held a.now) (held b.now) }
+// Two sets joined word by word, by an operation that does `by.on` with each bit.
+pub(super) fn join_words<F: Fn(u64, u64) -> u64>(a: &[u64; 8], b: &[u64; 8], op: F) -> [u64; 8]
+    ghost by: { BitOp }
+    requires callable { F.IsAlwaysCallable op }
+    requires computes { Computes (F.post op) by.word }
+    ensures marks { held result ≡ joined by.on (held a.now) (held b.now) }
     ensures inside { (w : ℕ) → OfWidth w (held a.now) → OfWidth w (held b.now) → OfWidth w (held result) }
 {
-    let mut out = [0; 8];
-    for i in 0..8 {
-        out[i] = join_word(how, a[i], b[i]);
-    }
-    out
+    std::array::from_fn(|i| op(a[i], b[i]))
 }
 
 pub(super) fn words_within(a: &[u64; 8], b: &[u64; 8]) -> bool
