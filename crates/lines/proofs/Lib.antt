@@ -1,6 +1,6 @@
-pub mod Ascents
 pub mod Turns
 pub mod Passing
 pub mod Going
 pub mod Admitting
 pub mod Meaning
+pub mod Told

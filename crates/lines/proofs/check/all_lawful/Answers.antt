@@ -1,34 +1,10 @@
-use Rattle.std.proofs.Common.{List, sym, refl, ◌∙◌, subst}
-use Rattle.std.proofs.ByRecursion.{All-get_or, All-more}
-use Rattle.std.proofs.lemmas.List.{take_all}
-use Rattle.std.proofs.lemmas.Bool.{false≢true}
-use Rattle.std.specs.List.{AllByRecursion}
+use Rattle.std.proofs.Common.{rules, tests}
+use Rattle.std.proofs.lemmas.Iterator.{cases_from_all, YieldsList-from_slice}
+use Rattle.lines.proofs.Told.{each_told}
 use Rattle.lines.proofs.check.all_lawful.Goals as goal
 
-pub loop-record-init : goal.loop-record-init
-loop-record-init g c = tt
-
-pub returns-then-not-is_lawful : goal.returns-then-not-is_lawful
-returns-then-not-is_lawful g c =
-    let P = g.R.Record.lawful c.args.width in
-    let r = c.record-item.result in (
-      (λ e. absurd (false≢true e)),
-      λ all.
-          sym c.if-not-is_lawful.true ∙ c.is_lawful.ensures.1
-          (subst P (sym c.record-item.is) (All-get_or P c.args.records.now c.loop-record.record-index r c.loop-record-test.true all)),
-    )
-
-pub loop-record-preserved : goal.loop-record-preserved
-loop-record-preserved g c =
-    let P = g.R.Record.lawful c.args.width in
-    let r = c.record-item.result in
-    All-more P c.args.records.now c.loop-record.record-index r c.loop-record-test.true c.loop-record.invariant
-    (subst P c.record-item.is (c.is_lawful.ensures.0 c.if-not-is_lawful.false))
-
 pub returns : goal.returns
-returns g c = (
-  (λ _.
-      subst (λ (rs : List g.row.R.Denot). AllByRecursion (g.R.Record.lawful c.args.width) rs)
-      (take_all c.loop-record.record-index c.args.records.now c.loop-record-test.false) c.loop-record.invariant),
-  λ _. refl,
-)
+returns g c =
+    let P = g.R.Record.lawful c.args.width in
+    each_told P c.args.records.now c.all.result
+    (cases_from_all _ _ _ P (λ x. P x → ⊥) c.all.ensures.ran (YieldsList-from_slice c.args.records.now cc) (λ x q k. search (rules, tests)) (λ x q k. search (rules, tests)))
