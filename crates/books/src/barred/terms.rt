@@ -34,7 +34,7 @@ impl<B: TermBook> BarredBook<B> {
     {
         BarredBook {
             below,
-            bars: Table::new(Bar { low: 0, high: 0 }),
+            bars: Table::new(Bar::default()),
         }
     }
 

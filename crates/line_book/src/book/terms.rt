@@ -14,8 +14,7 @@ use books::table::Table;
 use books::whole::give_all;
 use books::width::check_set_width;
 use lines::check::check_records;
-use lines::list::MarkList;
-use lines::term::{Kind, TermLine};
+use lines::term::TermLine;
 use marks::refusal::Refusal;
 use marks::set::MarkSet;
 use marks::width::check_width;
@@ -26,17 +25,9 @@ impl LineBook {
         ensures { Test (BadWidth width) (Refuses result 7) (Gives result (λ b. IsLineBook b width [])) }
     {
         check_width(width)?;
-        let blank = TermLine {
-            kind: Kind::Gives,
-            head: 0,
-            conditions: MarkList {
-                count: 0,
-                marks: [0; 8],
-            },
-        };
         Ok(LineBook {
             width,
-            lines: Table::new(blank),
+            lines: Table::new(TermLine::default()),
         })
     }
 
