@@ -15,7 +15,6 @@ use Rattle.readings.specs.Rules.{AllIn}
 use Rattle.books.specs.Denials.{some_stands}
 use Rattle.books.specs.Theorems.{SomeBar}
 use Rattle.books.specs.Denying.{stands_some, some_stand}
-use Rattle.books.proofs.Members.{from_map, to_map}
 
 -- it adds nothing
 bars_sweep : (w : ℕ) (bars : List Bar) (S : Marks) → swept w (map bar_view bars) S ≡ S
@@ -52,10 +51,10 @@ in_pair b X l h m i =
 pub some_bar : (bars : List Bar) (X : Marks) → T (some_stands (map bar_conditions bars) X) → SomeBar bars X
 some_bar bars X t =
     let p = stands_some (map bar_conditions bars) X t in
-    let q = from_map bar_conditions bars p.0 p.1 in
-    let r = pair_in q.0 X (subst (λ (ms : List ℕ). AllIn ms X) q.2 p.2) in
+    let q = Memᴰ.of_map bar_conditions bars p.1 in
+    let r = pair_in q.0 X (subst (λ (ms : List ℕ). AllIn ms X) (sym q.2) p.2) in
     (q.0, q.1, r.0, r.1)
 
 pub bar_some : (bars : List Bar) (X : Marks) → SomeBar bars X → T (some_stands (map bar_conditions bars) X)
 bar_some bars X p =
-    some_stand (map bar_conditions bars) X (bar_conditions p.0) (to_map bar_conditions bars p.0 p.1) (in_pair p.0 X p.2 p.3)
+    some_stand (map bar_conditions bars) X (bar_conditions p.0) (Memᴰ.map bar_conditions p.1) (in_pair p.0 X p.2 p.3)

@@ -6,8 +6,10 @@ ghost use Rattle.readings.specs.WellFounded.{bare};
 ghost use Rattle.std.proofs.Common.{rules};
 
 use crate::book::TermBook;
+use crate::width::check_set_width;
 use marks::refusal::Refusal;
 use marks::set::MarkSet;
+use marks::width::check_width;
 
 // It adds nothing and never clashes.
 #[derive(Clone, Copy)]
@@ -19,9 +21,7 @@ impl BareBook {
     pub fn new(width: u16) -> Result<BareBook, Refusal>
         ensures { Test (BadWidth width) (Refuses result 7) (Gives result (λ b. b.width ≡ width)) }
     {
-        if width < 1 || width > 512 {
-            return Err(Refusal::Width);
-        }
+        check_width(width)?;
         Ok(BareBook { width })
     }
 }
@@ -36,9 +36,7 @@ impl TermBook for BareBook {
     }
 
     fn close(&self, set: &mut MarkSet) -> Result<bool, Refusal> {
-        if set.width() != self.width {
-            return Err(Refusal::Width);
-        }
+        check_set_width(set, self.width)?;
         Ok(false)
     }
 }

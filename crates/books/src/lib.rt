@@ -7,3 +7,4 @@ pub mod book;
 pub mod table;
 pub mod theorems;
 pub mod whole;
+pub mod width;

@@ -1,5 +1,5 @@
 -- A set in memory on its way to the grown set, pass by pass.
-use Rattle.std.proofs.Common.{◌≡◌, ℕ, ◌<◌, true, false, not, List, map, length, sym, ap, ◌∙◌, subst}
+use Rattle.std.proofs.Common.{◌≡◌, ℕ, ◌<◌, true, false, not, List, map, sym, ap, ◌∙◌, subst}
 use Rattle.std.proofs.lemmas.Bool.{true≢false}
 use Rattle.books.specs.Denials.{some_stands}
 use Rattle.lines.specs.declared.pass.Passed.{Passed}
@@ -10,7 +10,7 @@ use Rattle.lines.proofs.Passing.{swept_more}
 use Rattle.marks.specs.declared.set.MarkSet.{MarkSet}
 use Rattle.marks.specs.MarkSets.{marks_of}
 use Rattle.marks.specs.Sets.{Marks, OfWidth, size}
-use Rattle.line_book.specs.Lines.{FirstLawful, denials, grown}
+use Rattle.line_book.specs.Lines.{LawfulLines, denials, grown}
 use Rattle.line_book.specs.Growing.{OnTheWay, one_more, at_end, stood_end}
 use Rattle.line_book.specs.Seeing.{heads_below}
 
@@ -39,7 +39,7 @@ module _ (w : ℕ) (ls : List TermLine) (S : Marks) (here after : MarkSet) (p : 
       subst (λ (Y : Marks). size w X < size w Y) (sym passed_marks)
       (swept_more w vs X inside (λ r. true≢false (sym (passes.added.1 (passed_marks ∙ r)) ∙ e)))
 
-  module _ (e : not p.added ≡ true) (way : OnTheWay ls S X) (law : FirstLawful w ls (length ls)) (s : OfWidth w S) where
+  module _ (e : not p.added ≡ true) (way : OnTheWay ls S X) (law : LawfulLines w ls) (s : OfWidth w S) where
     kept : marks_of after ≡ X
     kept = passes.added.0 e
 

@@ -1,5 +1,6 @@
 -- The meaning of a line book.
-use Rattle.std.specs.Prelude.{ℕ, ◌<◌, true, false, List, [], ◌∷◌, ◌++◌, Some, None, Option, slice_index_or}
+use Rattle.std.specs.Prelude.{ℕ, true, false, List, [], ◌∷◌, ◌++◌, Some, None, Option}
+use Rattle.std.specs.List.{AllByRecursion}
 use Rattle.books.specs.Denials.{denying}
 use Rattle.lines.specs.declared.term.TermLine.{TermLine}
 use Rattle.lines.specs.Lawful.{LawfulTerm}
@@ -10,9 +11,9 @@ use Rattle.readings.specs.Computed.{listed, among, filled}
 use Rattle.readings.specs.WellFounded.{bare}
 use Rattle.readings.specs.Rules.{Rule}
 
--- the first n lines are lawful for the width (how this is shown does not matter)
-abbrev pub FirstLawful : ℕ → List TermLine → ℕ → Type 0
-FirstLawful w lines n = (i : ℕ) (d : TermLine) → i < n → ∥ LawfulTerm w (slice_index_or lines i d) ∥₁
+-- all lines are lawful for the width (how this is shown does not matter)
+abbrev pub LawfulLines : ℕ → List TermLine → Type 0
+LawfulLines w lines = ∥ AllByRecursion (LawfulTerm w) lines ∥₁
 
 -- a giving line is a rule without exceptions, and a denial is none
 abbrev pub giving : Option ℕ → List ℕ → List Rule

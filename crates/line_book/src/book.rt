@@ -1,17 +1,15 @@
 // What a line book holds.
-ghost use Rattle.std.specs.Prelude.{◌≤◌};
-ghost use Rattle.line_book.specs.Lines.{FirstLawful};
+ghost use Rattle.line_book.specs.Lines.{LawfulLines};
 
+use books::table::Table;
 use lines::term::TermLine;
 
 pub mod terms;
 
-// The first `count` lines are in use, all lawful for the width.
+// All its lines are lawful for its width.
 #[derive(Drop)]
 pub struct LineBook {
     width: u16,
-    count: usize,
-    lines: [TermLine; 512],
-    ghost few: { count ≤ 512 },
-    ghost lawful: { FirstLawful width lines count },
+    lines: Table<TermLine, 512>,
+    ghost lawful: { LawfulLines width lines },
 }

@@ -2,6 +2,7 @@
 use Rattle.std.specs.Prelude.{◌≡◌, ℕ, Bool, true, false, not, ◌&&◌, T, List, [], ◌∷◌, ◌++◌, refl}
 use mathlib.Core.List.Memᴰ
 use mathlib.Core.List.{Memᴰ}
+use mathlib.Core.Bool.{and-true, and_assoc, and_comm}
 use Rattle.std.proofs.Common.{inl, inr, subst, sym, ap, ap₂, ◌∙◌}
 use Rattle.std.proofs.Math.Path.{fun_ext}
 use Rattle.marks.specs.Sets.{Marks, ◌∈◌, ◌⊆◌, below, OfWidth}
@@ -15,17 +16,7 @@ use Rattle.world_book.specs.Holding.{to_lies, from_lies, none_from, to_none, som
 -- one world more at the end
 
 kept_swap : (a b : Bool) (V W X : Marks) → kept a V (kept b W X) ≡ kept b W (kept a V X)
-kept_swap true true V W X = fun_ext (λ m. swap (X m) (V m) (W m))
-  where
-    swap : (x v w : Bool) → (x && w) && v ≡ (x && v) && w
-    swap true true w = and_true w
-      where
-        and_true : (w : Bool) → w && true ≡ w
-        and_true true = refl
-        and_true false = refl
-    swap true false true = refl
-    swap true false false = refl
-    swap false v w = refl
+kept_swap true true V W X = fun_ext (λ m. and_assoc (X m) (W m) (V m) ∙ ap (λ b. X m && b) (and_comm (W m) (V m)) ∙ sym (and_assoc (X m) (V m) (W m)))
 kept_swap true false V W X = refl
 kept_swap false b V W X = refl
 
@@ -35,21 +26,18 @@ module _ (w : ℕ) (S : Marks) where
   common_push (V ∷ Vs) W =
       ap (kept (lies_within w S V) V) (common_push Vs W) ∙ kept_swap (lies_within w S V) (lies_within w S W) V W (common w Vs S)
 
-  pub none_push : (Ws : List Marks) (W : Marks) → none_holds w (Ws ++ W ∷ []) S ≡ not (lies_within w S W) && none_holds w Ws S
-  none_push [] W = refl
-  none_push (V ∷ Vs) W = ap (λ b. not (lies_within w S V) && b) (none_push Vs W) ∙ swap (not (lies_within w S V)) (not (lies_within w S W)) (none_holds w Vs S)
-    where
-      swap : (a b c : Bool) → a && (b && c) ≡ b && (a && c)
-      swap true b c = refl
-      swap false true c = refl
-      swap false false c = refl
+  pub none_push : (Ws : List Marks) (W : Marks) → none_holds w (Ws ++ W ∷ []) S ≡ none_holds w Ws S && not (lies_within w S W)
+  none_push [] W = and-true (not (lies_within w S W))
+  none_push (V ∷ Vs) W =
+      let out = not (lies_within w S V) in
+      ap (λ b. out && b) (none_push Vs W) ∙ sym (and_assoc out (none_holds w Vs S) (not (lies_within w S W)))
 
   -- one turn over the worlds
   pub common_step : (Ws : List Marks) (W : Marks) {Vs : List Marks} {X Y : Marks} {b : Bool} → Vs ≡ Ws ++ W ∷ [] → X ≡ common w Ws S → b ≡ lies_within w S W → Y ≡ kept b W X → Y ≡ common w Vs S
   common_step Ws W more is held e = e ∙ ap₂ (λ (b : Bool) (Z : Marks). kept b W Z) held is ∙ sym (common_push Ws W) ∙ ap (λ (Us : List Marks). common w Us S) (sym more)
 
-  pub none_step : (Ws : List Marks) (W : Marks) {Vs : List Marks} {n n' b : Bool} → Vs ≡ Ws ++ W ∷ [] → n ≡ none_holds w Ws S → b ≡ lies_within w S W → n' ≡ not b && n → n' ≡ none_holds w Vs S
-  none_step Ws W more is held e = e ∙ ap₂ (λ (b n : Bool). not b && n) held is ∙ sym (none_push Ws W) ∙ ap (λ (Us : List Marks). none_holds w Us S) (sym more)
+  pub none_step : (Ws : List Marks) (W : Marks) {Vs : List Marks} {n b : Bool} → Vs ≡ Ws ++ W ∷ [] → n ≡ none_holds w Ws S → b ≡ lies_within w S W → n && not b ≡ none_holds w Vs S
+  none_step Ws W more is held = ap₂ (λ (n b : Bool). n && not b) is held ∙ sym (none_push Ws W) ∙ ap (λ (Us : List Marks). none_holds w Us S) (sym more)
 
 -- the marks of the width that each world has which holds the set
 

@@ -1,8 +1,14 @@
 -- The meaning of a world book. A world is a set of marks that can be all that is so; a world holds a set when the set lies within
 -- it.
-use Rattle.std.specs.Prelude.{ℕ, zero, suc, Bool, true, false, not, ◌&&◌, ◌||◌, List, [], ◌∷◌}
+use Rattle.std.specs.Prelude.{◌≡◌, ℕ, zero, suc, Bool, true, false, not, ◌&&◌, ◌||◌, List, [], ◌∷◌}
+use Rattle.std.specs.List.{All}
+use Rattle.marks.specs.declared.set.MarkSet.{MarkSet}
 use Rattle.marks.specs.Sets.{Marks, below, ◌∩◌}
 use Rattle.readings.specs.Books.{Book}
+
+-- each of the sets has the width w
+abbrev pub AllOfWidth : ℕ → List MarkSet → Type 0
+AllOfWidth w sets = All (λ s. s.width ≡ w) sets
 
 -- whether each mark of S below w is one of W
 abbrev pub lies_within : ℕ → Marks → Marks → Bool

@@ -1,10 +1,8 @@
 // Worlds one by one: which hold a set, and what those have in common.
-ghost use Rattle.std.specs.Prelude.{◌≡◌, ℕ, ◌<◌, ◌≤◌, map, length, take, Decides, slice_index_or};
-ghost use Rattle.marks.specs.declared.set.MarkSet.{MarkSet};
+ghost use Rattle.std.specs.Prelude.{◌≡◌, map, Decides};
 ghost use Rattle.marks.specs.MarkSets.{marks_of, IsSet};
 ghost use Rattle.books.specs.Closing.{ClosedTo};
-ghost use Rattle.world_book.specs.Worlds.{lies_within, kept, world_book};
-ghost use Rattle.world_book.specs.WorldBooks.{AllOfWidth};
+ghost use Rattle.world_book.specs.Worlds.{AllOfWidth, lies_within, kept, world_book};
 
 use books::whole::give_all;
 use marks::set::MarkSet;
@@ -13,12 +11,7 @@ use marks::set::MarkSet;
 pub(crate) fn all_of_width(worlds: &[MarkSet], width: u16) -> bool
     ensures { Decides result (AllOfWidth width worlds.now) }
 {
-    for world in worlds {
-        if world.width() != width {
-            return false;
-        }
-    }
-    true
+    worlds.iter().all(|world| world.width() == width)
 }
 
 // Whether the world holds the set: whether the set lies within it.
@@ -26,10 +19,7 @@ fn holds(world: &MarkSet, set: &MarkSet) -> bool
     requires { world.now.width ≡ set.now.width }
     ensures { result ≡ lies_within set.now.width (marks_of set.now) (marks_of world.now) }
 {
-    match set.is_subset(world) {
-        Ok(within) => within,
-        Err(_) => false,
-    }
+    set.is_subset(world).unwrap_or(false)
 }
 
 // Keeps of `common` what the world has too, if the world holds the set; says whether it does.
@@ -46,20 +36,17 @@ fn keep_world(world: &MarkSet, set: &MarkSet, common: &mut MarkSet) -> bool
     held
 }
 
-// Looks at each of the first `count` worlds once: turns the set into the marks common to those that hold it, all marks where none
-// does, and says whether none does.
-pub(crate) fn common_marks(worlds: &[MarkSet], count: usize, set: &mut MarkSet) -> bool
-    requires few { count ≤ length worlds.now }
-    requires widths { (i : ℕ) (d : MarkSet) → i < count → (slice_index_or worlds.now i d).width ≡ set.old.width }
-    ensures { ClosedTo (world_book set.old.width (map marks_of (take count worlds.now))) set.old set.new result }
+// Looks at each world once: turns the set into the marks common to those that hold it, all marks where none does, and says whether
+// none does.
+pub(crate) fn common_marks(worlds: &[MarkSet], set: &mut MarkSet) -> bool
+    requires { AllOfWidth set.old.width worlds.now }
+    ensures { ClosedTo (world_book set.old.width (map marks_of worlds.now)) set.old set.new result }
 {
     let given = *set;
     give_all(true, set);
     let mut none = true;
-    for i in 0..count {
-        if keep_world(&worlds[i], &given, set) {
-            none = false;
-        }
+    for world in worlds {
+        none &= !keep_world(world, &given, set);
     }
     none
 }

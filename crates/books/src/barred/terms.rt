@@ -1,17 +1,17 @@
 // The calls on a barred book.
-ghost use Rattle.std.specs.Prelude.{◌≡◌, ◌≤◌, [], map, length, take};
+ghost use Rattle.std.specs.Prelude.{◌≡◌, [], map};
 ghost use Rattle.marks.specs.MarkSets.{marks_of, IsSet};
 ghost use Rattle.marks.specs.Refusals.{Refuses, Gives, Test};
 ghost use Rattle.lines.specs.Lawful.{LawfulBar, AllLawful};
 ghost use Rattle.lines.specs.Records.{bar_conditions};
 ghost use Rattle.books.specs.Bars.{barred};
-ghost use Rattle.books.specs.BarredBooks.{bars_of, IsBarredBook, SameBook};
+ghost use Rattle.books.specs.BarredBooks.{IsBarredBook, SameBook};
 ghost use Rattle.books.specs.Denials.{some_stands};
 ghost use Rattle.books.specs.Denying.{denying_lawful};
 
 use super::BarredBook;
 use crate::book::TermBook;
-use crate::table::overwrite;
+use crate::table::Table;
 use crate::whole::give_all;
 use lines::bar::Bar;
 use lines::check::check_records;
@@ -19,13 +19,12 @@ use lines::pass::pass;
 use marks::refusal::Refusal;
 use marks::set::MarkSet;
 
-// Whether the set has both marks of one of the first `count` bars. The set stays as it is.
-fn some_bar(bars: &[Bar], count: usize, set: &mut MarkSet) -> bool
-    requires { count ≤ length bars.now }
-    ensures stands { result ≡ some_stands (map bar_conditions (take count bars.now)) (marks_of set.old) }
+// Whether the set has both marks of one of the bars. The set stays as it is.
+fn some_bar(bars: &[Bar], set: &mut MarkSet) -> bool
+    ensures stands { result ≡ some_stands (map bar_conditions bars.now) (marks_of set.old) }
     ensures stays { IsSet set.new set.old.width (marks_of set.old) }
 {
-    pass(&bars[0..count], &(), set).stood
+    pass(bars, &(), set).stood
 }
 
 impl<B: TermBook> BarredBook<B> {
@@ -35,8 +34,7 @@ impl<B: TermBook> BarredBook<B> {
     {
         BarredBook {
             below,
-            count: 0,
-            bars: [Bar { low: 0, high: 0 }; 32],
+            bars: Table::new(Bar::default()),
         }
     }
 
@@ -45,15 +43,15 @@ impl<B: TermBook> BarredBook<B> {
         ensures { Test (AllLawful (LawfulBar (B.TermBook.book self.old.below).width) 32 bars.now → ⊥) (Refuses result 8 × SameBook self.old self.new) (Gives result (λ _. IsBarredBook self.new self.old.below bars.now)) }
     {
         check_records(bars, 32, self.below.width())?;
-        self.count = overwrite(&mut self.bars, bars);
+        self.bars.fill(bars);
         Ok(())
     }
 }
 
 impl<B: TermBook> TermBook for BarredBook<B> {
-    ghost book = { λ b. barred (B.TermBook.book b.below) (bars_of b) };
+    ghost book = { λ b. barred (B.TermBook.book b.below) b.bars };
 
-    ghost lawful = { λ b. denying_lawful (B.TermBook.book b.below) (B.TermBook.lawful b.below) (map bar_conditions (bars_of b)) };
+    ghost lawful = { λ b. denying_lawful (B.TermBook.book b.below) (B.TermBook.lawful b.below) (map bar_conditions b.bars) };
 
     fn width(&self) -> u16 {
         self.below.width()
@@ -61,7 +59,7 @@ impl<B: TermBook> TermBook for BarredBook<B> {
 
     fn close(&self, set: &mut MarkSet) -> Result<bool, Refusal> {
         let below = self.below.close(set)?;
-        let clash = below || some_bar(&self.bars, self.count, set);
+        let clash = below || some_bar(self.bars.as_slice(), set);
         give_all(clash, set);
         Ok(clash)
     }

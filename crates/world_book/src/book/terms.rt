@@ -2,13 +2,15 @@
 ghost use Rattle.std.specs.Prelude.{◌<◌, [], map, length};
 ghost use Rattle.marks.specs.MarkSets.{marks_of, BadWidth};
 ghost use Rattle.marks.specs.Refusals.{Refuses, Gives, Test};
-ghost use Rattle.world_book.specs.WorldBooks.{meaning, IsWorldBook, SameBook, AllOfWidth, worlds_of};
+ghost use Rattle.world_book.specs.WorldBooks.{meaning, IsWorldBook, SameBook, worlds_of};
+ghost use Rattle.world_book.specs.Worlds.{AllOfWidth};
 ghost use Rattle.world_book.specs.Common.{world_lawful};
 
 use super::WorldBook;
 use crate::worlds::{all_of_width, common_marks};
 use books::book::TermBook;
-use books::table::overwrite;
+use books::table::Table;
+use books::width::check_set_width;
 use marks::refusal::Refusal;
 use marks::set::MarkSet;
 
@@ -17,11 +19,10 @@ impl WorldBook {
     pub fn new(width: u16) -> Result<WorldBook, Refusal>
         ensures { Test (BadWidth width) (Refuses result 7) (Gives result (λ b. IsWorldBook b width [])) }
     {
-        let none = MarkSet::empty(width)?;
+        let blank = MarkSet::empty(width)?;
         Ok(WorldBook {
             width,
-            count: 0,
-            worlds: [none; 64],
+            worlds: Table::new(blank),
         })
     }
 
@@ -35,7 +36,7 @@ impl WorldBook {
         if worlds.len() > 64 {
             return Err(Refusal::Record);
         }
-        self.count = overwrite(&mut self.worlds, worlds);
+        self.worlds.fill(worlds);
         Ok(())
     }
 }
@@ -50,9 +51,7 @@ impl TermBook for WorldBook {
     }
 
     fn close(&self, set: &mut MarkSet) -> Result<bool, Refusal> {
-        if set.width() != self.width {
-            return Err(Refusal::Width);
-        }
-        Ok(common_marks(&self.worlds, self.count, set))
+        check_set_width(set, self.width)?;
+        Ok(common_marks(self.worlds.as_slice(), set))
     }
 }
