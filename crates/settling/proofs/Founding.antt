@@ -16,15 +16,15 @@ use Rattle.settling.specs.declared.settled.Settled.{Settled}
 use Rattle.settling.proofs.Fares.{fits}
 
 pub is_model : (w : ℕ) (lines : List FareLine) (facts : MarkSet) (s : Settled) (fails : MarkSet) → w ≡ facts.width → LawfulFares facts.width lines
-    → Settles (bare w) lines facts First s → IsSet fails s.upper.width (outside s.upper.width (marks_of s.upper)) → IsModel lines facts (record { holds = s.lower; fails = fails })
+    → Settles (bare w) lines facts First s → IsSet fails s.reading.upper.width (outside s.reading.upper.width (marks_of s.reading.upper)) → IsModel lines facts (record { holds = s.reading.lower; fails = fails })
 is_model w lines facts s fails e lawful settles is =
     let fit : Fit (bare w) (rules_of lines) (marks_of facts) =
     fits (bare w) (bare_lawful w) lines facts (record { width = sym e; lawful = subst (λ (n : ℕ). LawfulFares n lines) (sym e) lawful }) in
-    let model : WellFoundedModel w (rules_of lines) (marks_of facts) (marks_of s.lower) (outside w (marks_of s.upper)) = reading_model fit settles.reading in
+    let model : WellFoundedModel w (rules_of lines) (marks_of facts) (marks_of s.reading.lower) (outside w (marks_of s.reading.upper)) = reading_model fit settles.reading in
     record {
       holds = settles.lower ∙ e;
       fails = is.width ∙ settles.upper ∙ e;
       model =
-          subst₂ (λ (n : ℕ) (X : Marks). WellFoundedModel n (rules_of lines) (marks_of facts) (marks_of s.lower) X) e
-          (ap (λ (n : ℕ). outside n (marks_of s.upper)) (sym settles.upper) ∙ sym is.marks) model;
+          subst₂ (λ (n : ℕ) (X : Marks). WellFoundedModel n (rules_of lines) (marks_of facts) (marks_of s.reading.lower) X) e
+          (ap (λ (n : ℕ). outside n (marks_of s.reading.upper)) (sym settles.upper) ∙ sym is.marks) model;
     }

@@ -14,10 +14,10 @@ use Rattle.settling.specs.Rounding.{Settles}
 use Rattle.settling.specs.declared.settled.Settled.{Settled}
 
 pub settles_by : (B : Book) (lines : List FareLine) (facts : MarkSet) → Fit B (rules_of lines) (marks_of facts) → (k : Method) (s : Settled) (U : Marks)
-    → s.lower.width ≡ B.width → s.upper.width ≡ B.width → marks_of s.upper ≡ U → Rounds B (rules_of lines) (marks_of facts) k s.rounds (marks_of s.lower) U → Settles B lines facts k s
+    → s.reading.lower.width ≡ B.width → s.reading.upper.width ≡ B.width → marks_of s.reading.upper ≡ U → Rounds B (rules_of lines) (marks_of facts) k s.rounds (marks_of s.reading.lower) U → Settles B lines facts k s
 settles_by B lines facts fit k s U lower upper is r =
-    let rounds : Rounds B (rules_of lines) (marks_of facts) k s.rounds (marks_of s.lower) (marks_of s.upper) =
-    subst (λ (X : Marks). Rounds B (rules_of lines) (marks_of facts) k s.rounds (marks_of s.lower) X) (sym is) r in
+    let rounds : Rounds B (rules_of lines) (marks_of facts) k s.rounds (marks_of s.reading.lower) (marks_of s.reading.upper) =
+    subst (λ (X : Marks). Rounds B (rules_of lines) (marks_of facts) k s.rounds (marks_of s.reading.lower) X) (sym is) r in
     record {
       lower = lower;
       upper = upper;

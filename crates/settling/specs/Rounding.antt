@@ -41,9 +41,9 @@ pub record Rounded (W : Way) (w : ℕ) (T V T' V' : MarkSet) (changed : Bool) : 
 -- What a method answers: the least reading, and its rounds by its stopping rule, which are few. The other method ends with the
 -- same after as many.
 pub record Settles (B : Book) (lines : List FareLine) (facts : MarkSet) (method : Method) (s : Settled) : Type 0 where
-  pub lower : s.lower.width ≡ B.width
-  pub upper : s.upper.width ≡ B.width
-  pub reading : LeastReading B (rules_of lines) (marks_of facts) (marks_of s.lower) (marks_of s.upper)
-  pub rounds : Rounds B (rules_of lines) (marks_of facts) method s.rounds (marks_of s.lower) (marks_of s.upper)
+  pub lower : s.reading.lower.width ≡ B.width
+  pub upper : s.reading.upper.width ≡ B.width
+  pub reading : LeastReading B (rules_of lines) (marks_of facts) (marks_of s.reading.lower) (marks_of s.reading.upper)
+  pub rounds : Rounds B (rules_of lines) (marks_of facts) method s.rounds (marks_of s.reading.lower) (marks_of s.reading.upper)
   pub few : s.rounds ≤ B.width + 2
-  pub either : (other : Method) → Rounds B (rules_of lines) (marks_of facts) other s.rounds (marks_of s.lower) (marks_of s.upper)
+  pub either : (other : Method) → Rounds B (rules_of lines) (marks_of facts) other s.rounds (marks_of s.reading.lower) (marks_of s.reading.upper)

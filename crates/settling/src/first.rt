@@ -15,6 +15,7 @@ use lines::check::check_records;
 use lines::fare::FareLine;
 use marks::refusal::Refusal;
 use marks::set::MarkSet;
+use readings::reading::Reading;
 
 // One round: T becomes the full yield of U, and then U the guarded yield of that T. Says whether either changed.
 fn first_round<B: TermBook>(
@@ -51,11 +52,8 @@ pub(crate) fn first_rounds<B: TermBook>(
     while first_round(lines, book, facts, &mut lower, &mut upper)? {
         rounds += 1;
     }
-    Ok(Settled {
-        lower,
-        upper,
-        rounds,
-    })
+    let reading = Reading { lower, upper };
+    Ok(Settled { reading, rounds })
 }
 
 // Settles the facts by the first method.

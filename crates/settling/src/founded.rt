@@ -27,9 +27,9 @@ fn model_of(lines: &[FareLine], facts: &MarkSet) -> Result<Model, Refusal>
 {
     let book = BareBook::new(facts.width())?;
     let settled = first_rounds(lines, &book, facts)?;
-    let fails = complement(&settled.upper)?;
+    let fails = complement(&settled.reading.upper)?;
     Ok(Model {
-        holds: settled.lower,
+        holds: settled.reading.lower,
         fails,
     })
 }

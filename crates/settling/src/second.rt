@@ -18,6 +18,7 @@ use lines::check::check_records;
 use lines::fare::FareLine;
 use marks::refusal::Refusal;
 use marks::set::MarkSet;
+use readings::reading::Reading;
 
 // T grown by the rules whose exceptions are all in F.
 fn grown_past<B: TermBook>(
@@ -103,11 +104,8 @@ pub(crate) fn second_rounds<B: TermBook>(
         rounds += 1;
     }
     let upper = complement(&refuted)?;
-    Ok(Settled {
-        lower,
-        upper,
-        rounds,
-    })
+    let reading = Reading { lower, upper };
+    Ok(Settled { reading, rounds })
 }
 
 // Settles the facts by the second method.

@@ -51,7 +51,7 @@ fn judged_by<B: TermBook>(
     ensures { Gives result (Judges (B.TermBook.book book.now) lines.now facts.now method) }
 {
     let settled = rounds_by(lines, book, facts, method)?;
-    let verdict = judge(lines, book, facts, &settled.lower, &settled.upper)?;
+    let verdict = judge(lines, book, facts, &settled.reading)?;
     Ok(Judged { settled, verdict })
 }
 

@@ -15,8 +15,8 @@ returns-then-branch g c =
 pub returns : goal.returns
 returns g c =
     let B = g.B.TermBook.book c.args.book.now in
-    let lower = c.args.lower.now in
+    let lower = c.args.reading.now.lower in
     let none = (given c.in_ok-none.ensures).marks in
-    broken_by B (marks_of lower) (marks_of c.args.upper.now) c.in_ok-is_subset.field-0
-    (subst (λ (w : ℕ). OfWidth w (marks_of lower)) c.requires.lower lower.inside)
+    broken_by B (marks_of lower) (marks_of c.args.reading.now.upper) c.in_ok-is_subset.field-0
+    (subst (λ (w : ℕ). OfWidth w (marks_of lower)) c.requires.width lower.inside)
     (ap B.clash (sym none) ∙ sym c.in_ok-clashes.ensures ∙ c.if-branch.false) (given c.in_ok-is_subset.ensures)
