@@ -6,7 +6,7 @@ use Rattle.readings.specs.Books.{Book}
 use Rattle.marks.specs.Sets.{no_marks}
 use Rattle.readings.specs.Methods.{Way, PastExceptions, NotRefuted}
 use Rattle.readings.specs.Readings.{LeastReading}
-use Rattle.readings.specs.Says.{Rounds}
+use Rattle.readings.specs.Says.{the_method, Rounds}
 use Rattle.readings.specs.Yields.{LeastClosed}
 use Rattle.readings.specs.declared.method.Method.{Method}
 use Rattle.lines.specs.declared.fare.FareLine.{FareLine}
@@ -29,6 +29,10 @@ pub record GrownPast (B : Book) (lines : List FareLine) (facts T F x : MarkSet) 
 pub record KeptAt (B : Book) (lines : List FareLine) (facts T F x : MarkSet) : Type 0 where
   pub width : x.width ≡ B.width
   pub kept : LeastClosed B no_marks (NotRefuted B (rules_of lines) (marks_of facts) (marks_of F) (marks_of T)) (marks_of x)
+
+-- a method as a way of settling facts and fare lines in memory
+abbrev pub way_of : Method → Book → List FareLine → MarkSet → Way
+way_of k B lines facts = (the_method k).way B (rules_of lines) (marks_of facts)
 
 -- one round of the way W turned T, V into T', V', and the answer is whether it changed either
 pub record Rounded (W : Way) (w : ℕ) (T V T' V' : MarkSet) (changed : Bool) : Type 0 where

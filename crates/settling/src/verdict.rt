@@ -3,12 +3,10 @@ ghost use Rattle.std.specs.Prelude.{◌≡◌, Decides};
 ghost use Rattle.marks.specs.MarkSets.{marks_of};
 ghost use Rattle.marks.specs.Refusals.{Gives};
 ghost use Rattle.readings.specs.Says.{the_verdict, IsBroken};
-ghost use Rattle.settling.specs.Calls.{GoesWith};
 ghost use Rattle.settling.specs.Growth.{rules_of};
 
-use crate::yields::{full_of, guarded_of};
+use crate::trip::Trip;
 use books::book::TermBook;
-use lines::fare::FareLine;
 use marks::refusal::Refusal;
 use marks::set::MarkSet;
 use readings::reading::Reading;
@@ -25,7 +23,7 @@ pub(crate) fn clashes<B: TermBook>(book: &B, set: &MarkSet) -> Result<bool, Refu
 
 // Whether the book clashes at the empty set, or a mark of T is not in U.
 fn broken<B: TermBook>(book: &B, reading: &Reading) -> Result<bool, Refusal>
-    requires width { reading.now.lower.width ≡ (B.TermBook.book book.now).width }
+    requires { reading.now.lower.width ≡ (B.TermBook.book book.now).width }
     ensures { Gives result (λ b. Decides b (IsBroken (B.TermBook.book book.now) (marks_of reading.now.lower) (marks_of reading.now.upper))) }
 {
     let none = MarkSet::empty(book.width())?;
@@ -35,25 +33,21 @@ fn broken<B: TermBook>(book: &B, reading: &Reading) -> Result<bool, Refusal>
     Ok(!reading.lower.is_subset(&reading.upper)?)
 }
 
-// The verdict that the rules give on T and U: broken, else suspect where the two yields of T differ, else clear.
-pub(crate) fn judge<B: TermBook>(
-    lines: &[FareLine],
-    book: &B,
-    facts: &MarkSet,
-    reading: &Reading,
-) -> Result<Verdict, Refusal>
-    requires goes { GoesWith (B.TermBook.book book.now) lines.now facts.now }
-    requires width { reading.now.lower.width ≡ (B.TermBook.book book.now).width }
-    ensures { Gives result (λ v. (the_verdict v).says (B.TermBook.book book.now) (rules_of lines.now) (marks_of facts.now) (marks_of reading.now.lower) (marks_of reading.now.upper)) }
-{
-    if broken(book, reading)? {
-        return Ok(Verdict::Broken);
-    }
-    let full = full_of(lines, book, facts, &reading.lower)?;
-    let guarded = guarded_of(lines, book, facts, &reading.lower)?;
-    if full.same_marks(&guarded)? {
-        Ok(Verdict::Clear)
-    } else {
-        Ok(Verdict::Suspect)
+impl<B: TermBook> Trip<'_, B> {
+    // The verdict that the rules give on T and U: broken, else suspect where the two yields of T differ, else clear.
+    pub(crate) fn judge(&self, reading: &Reading) -> Result<Verdict, Refusal>
+        requires { reading.now.lower.width ≡ (B.TermBook.book self.now.book.now).width }
+        ensures { Gives result (λ v. (the_verdict v).says (B.TermBook.book self.now.book.now) (rules_of self.now.lines.now) (marks_of self.now.facts.now) (marks_of reading.now.lower) (marks_of reading.now.upper)) }
+    {
+        if broken(self.book, reading)? {
+            return Ok(Verdict::Broken);
+        }
+        let full = self.full_of(&reading.lower)?;
+        let guarded = self.guarded_of(&reading.lower)?;
+        if full.same_marks(&guarded)? {
+            Ok(Verdict::Clear)
+        } else {
+            Ok(Verdict::Suspect)
+        }
     }
 }

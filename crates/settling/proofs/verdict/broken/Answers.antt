@@ -18,5 +18,5 @@ returns g c =
     let lower = c.args.reading.now.lower in
     let none = (given c.in_ok-none.ensures).marks in
     broken_by B (marks_of lower) (marks_of c.args.reading.now.upper) c.in_ok-is_subset.field-0
-    (subst (λ (w : ℕ). OfWidth w (marks_of lower)) c.requires.width lower.inside)
+    (subst (λ (w : ℕ). OfWidth w (marks_of lower)) c.requires lower.inside)
     (ap B.clash (sym none) ∙ sym c.in_ok-clashes.ensures ∙ c.if-branch.false) (given c.in_ok-is_subset.ensures)

@@ -1,0 +1,29 @@
+use Rattle.std.proofs.Common.{◌∙◌, subst, arith}
+use Rattle.std.proofs.ByRecursion.{All-more, All-weaker}
+use Rattle.std.proofs.lemmas.List.{take_all}
+use Rattle.std.specs.List.{AllByRecursion}
+use Rattle.marks.specs.MarkSets.{marks_of}
+use Rattle.settling.specs.Growth.{HeadIn}
+use Rattle.settling.proofs.Denying.{took_in}
+use Rattle.settling.proofs.trip.Trip.all_heads.Goals as goal
+
+pub loop-line-preserved : goal.loop-line-preserved
+loop-line-preserved g c =
+    let l = c.loop-line in
+    let t = took_in l.heads c.insert.new.self _ c.insert.result c.insert.ensures in
+    let P = HeadIn c.args.self.now.facts.now.width (marks_of c.insert.new.self) in (
+      t.width ∙ l.invariant.0,
+      (λ m u. t.around m (l.invariant.1 m u)),
+      All-more P c.args.self.now.lines.now l.line-index _ c.loop-line-test.true
+          (All-weaker (HeadIn c.args.self.now.facts.now.width (marks_of l.heads)) P (λ x h k. t.around x.head (h k)) _ l.invariant.2)
+          (λ h. t.mark (let e = l.invariant.0 in omega arith)),
+    )
+
+pub returns : goal.returns
+returns g c =
+    let lines = c.args.self.now.lines.now in
+    record {
+      width = c.loop-line.invariant.0;
+      facts = c.loop-line.invariant.1;
+      heads = subst (AllByRecursion (HeadIn c.args.self.now.facts.now.width (marks_of c.loop-line.heads))) (take_all c.loop-line.line-index lines c.loop-line-test.false) c.loop-line.invariant.2;
+    }
