@@ -1,5 +1,5 @@
 -- The least reading with the bare book is the well-founded model.
-use Rattle.std.proofs.Common.{◌≡◌, ℕ, List, sym, ap, ◌∙◌, subst₂}
+use Rattle.std.proofs.Common.{ℕ, List, sym, ap, ◌∙◌, subst₂}
 use Rattle.marks.specs.declared.set.MarkSet.{MarkSet}
 use Rattle.marks.specs.MarkSets.{marks_of, IsSet}
 use Rattle.marks.specs.Sets.{Marks, outside}

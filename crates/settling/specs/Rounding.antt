@@ -34,6 +34,12 @@ pub record KeptAt (B : Book) (lines : List FareLine) (facts T F x : MarkSet) : T
 abbrev pub way_of : Method → Book → List FareLine → MarkSet → Way
 way_of k B lines facts = (the_method k).way B (rules_of lines) (marks_of facts)
 
+-- what one round of the way W makes of T and V, two sets of the width
+pub record MadeOf (W : Way) (w : ℕ) (T V : MarkSet) (next : MarkSet × MarkSet) : Type 0 where
+  pub lower : next.0.width ≡ w
+  pub other : next.1.width ≡ w
+  pub round : W.round (marks_of T) (marks_of V) (marks_of next.0) (marks_of next.1)
+
 -- one round of the way W turned T, V into T', V', and the answer is whether it changed either
 pub record Rounded (W : Way) (w : ℕ) (T V T' V' : MarkSet) (changed : Bool) : Type 0 where
   pub lower : T'.width ≡ w

@@ -6,7 +6,7 @@ ghost use Rattle.settling.specs.Calls.{Unlike, LawfulFares};
 ghost use Rattle.settling.specs.Rounding.{Settles};
 
 use crate::rounds::Way;
-use crate::settled::{Settled, replace};
+use crate::settled::Settled;
 use crate::trip::Trip;
 use books::book::TermBook;
 use lines::fare::FareLine;
@@ -24,16 +24,14 @@ impl Way for FirstWay {
     }
 
     // T becomes the full yield of U, and then U the guarded yield of that T.
-    fn round<B: TermBook>(
+    fn next<B: TermBook>(
         trip: &Trip<B>,
-        lower: &mut MarkSet,
-        upper: &mut MarkSet,
-    ) -> Result<bool, Refusal> {
+        _lower: &MarkSet,
+        upper: &MarkSet,
+    ) -> Result<(MarkSet, MarkSet), Refusal> {
         let next_lower = trip.full_of(upper)?;
         let next_upper = trip.guarded_of(&next_lower)?;
-        let lower_changed = replace(lower, next_lower)?;
-        let upper_changed = replace(upper, next_upper)?;
-        Ok(lower_changed || upper_changed)
+        Ok((next_lower, next_upper))
     }
 
     fn upper<B: TermBook>(_trip: &Trip<B>, upper: &MarkSet) -> Result<MarkSet, Refusal> {

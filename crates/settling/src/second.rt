@@ -6,7 +6,7 @@ ghost use Rattle.settling.specs.Calls.{Unlike, LawfulFares};
 ghost use Rattle.settling.specs.Rounding.{GrownPast, KeptAt, Settles};
 
 use crate::rounds::Way;
-use crate::settled::{Settled, complement, replace};
+use crate::settled::{Settled, complement};
 use crate::trip::Trip;
 use books::book::TermBook;
 use lines::admission::Admission;
@@ -56,18 +56,16 @@ impl Way for SecondWay {
     }
 
     // T grows, and then all marks that are not kept join F.
-    fn round<B: TermBook>(
+    fn next<B: TermBook>(
         trip: &Trip<B>,
-        lower: &mut MarkSet,
-        refuted: &mut MarkSet,
-    ) -> Result<bool, Refusal> {
+        lower: &MarkSet,
+        refuted: &MarkSet,
+    ) -> Result<(MarkSet, MarkSet), Refusal> {
         let grown = trip.grown_past(lower, refuted)?;
         let kept = trip.kept_at(&grown, refuted)?;
         let mut joined = *refuted;
         joined.union_with(&complement(&kept)?)?;
-        let lower_changed = replace(lower, grown)?;
-        let refuted_changed = replace(refuted, joined)?;
-        Ok(lower_changed || refuted_changed)
+        Ok((grown, joined))
     }
 
     fn upper<B: TermBook>(_trip: &Trip<B>, refuted: &MarkSet) -> Result<MarkSet, Refusal> {
