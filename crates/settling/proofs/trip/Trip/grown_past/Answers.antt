@@ -1,7 +1,6 @@
 use Rattle.std.proofs.Common.{ℕ, ap, ◌∙◌}
 use Rattle.marks.specs.MarkSets.{marks_of}
 use Rattle.marks.specs.Sets.{outside}
-use Rattle.settling.specs.Growth.{rules_of}
 use Rattle.settling.proofs.Answering.{given, gives_map}
 use Rattle.settling.proofs.Fares.{fits}
 use Rattle.settling.proofs.Yielding.{grown_past_F}
@@ -10,17 +9,9 @@ use Rattle.settling.proofs.trip.Trip.grown_past.Goals as goal
 pub returns : goal.returns
 returns g c =
     let t = c.args.self.now in
-    let B = g.B.TermBook.book t.book.now in
-    let F = marks_of c.args.refuted.now in
-    let none = (given c.in_ok-none.ensures).marks in
-    let rest = c.in_ok-complement.ensures in
-    gives_map c.grown.result
-    (λ x grown.
-    record {
-      width = grown.width;
-      grown =
-          grown_past_F B (rules_of t.lines.now) (marks_of t.facts.now)
-          (fits B (g.met.B.TermBook.lawful t.book.now) t.lines.now t.facts.now t.goes) F _ _ _ _ _
-          (rest.marks ∙ ap (λ (w : ℕ). outside w F) c.requires.refuted) none none grown.least;
-    })
-    c.grown.ensures
+    let fit = fits (g.B.TermBook.book t.book.now) (g.met.B.TermBook.lawful t.book.now) t.lines.now t.facts.now t.goes in
+    let F = c.args.refuted.now in
+    let none = c.in_ok-none.none in
+    let is = (given c.in_ok-none.ensures).marks in
+    let outer = c.in_ok-complement.ensures.marks ∙ ap (λ (w : ℕ). outside w (marks_of F)) c.requires.refuted in
+    gives_map c.grown.result (λ x grown. grown_past_F _ _ (record { exceptions = c.in_ok-complement.field-0; denied = none; refuted = none }) grown fit F outer is is) c.grown.ensures
