@@ -1,16 +1,9 @@
-use Rattle.std.proofs.Common.{ℕ, sym, refl, ap, ◌∙◌, subst, inl}
+use Rattle.std.proofs.Common.{ℕ, sym, ap, ◌∙◌, subst}
 use Rattle.marks.specs.MarkSets.{marks_of}
 use Rattle.marks.specs.Sets.{OfWidth}
-use Rattle.marks.proofs.Sets.{holds}
 use Rattle.settling.proofs.Answering.{given}
 use Rattle.settling.proofs.Judging.{broken_by}
 use Rattle.settling.proofs.verdict.broken.Goals as goal
-
-pub returns-then-branch : goal.returns-then-branch
-returns-then-branch g c =
-    let B = g.B.TermBook.book c.args.book.now in
-    let none = (given c.in_ok-none.ensures).marks in
-    ((λ _. inl (holds (ap B.clash (sym none) ∙ sym c.in_ok-clashes.ensures ∙ c.if-branch.true))), λ _. refl)
 
 pub returns : goal.returns
 returns g c =

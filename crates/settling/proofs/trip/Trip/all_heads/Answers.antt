@@ -1,7 +1,5 @@
-use Rattle.std.proofs.Common.{◌∙◌, subst, arith}
+use Rattle.std.proofs.Common.{◌∙◌, arith}
 use Rattle.std.proofs.ByRecursion.{All-more, All-weaker}
-use Rattle.std.proofs.lemmas.List.{take_all}
-use Rattle.std.specs.List.{AllByRecursion}
 use Rattle.marks.specs.MarkSets.{marks_of}
 use Rattle.settling.specs.Growth.{HeadIn}
 use Rattle.settling.proofs.Denying.{took_in}
@@ -18,12 +16,3 @@ loop-line-preserved g c =
           (All-weaker (HeadIn c.args.self.now.facts.now.width (marks_of l.heads)) P (λ x h k. t.around x.head (h k)) _ l.invariant.2)
           (λ h. t.mark (let e = l.invariant.0 in omega arith)),
     )
-
-pub returns : goal.returns
-returns g c =
-    let lines = c.args.self.now.lines.now in
-    record {
-      width = c.loop-line.invariant.0;
-      facts = c.loop-line.invariant.1;
-      heads = subst (AllByRecursion (HeadIn c.args.self.now.facts.now.width (marks_of c.loop-line.heads))) (take_all c.loop-line.line-index lines c.loop-line-test.false) c.loop-line.invariant.2;
-    }

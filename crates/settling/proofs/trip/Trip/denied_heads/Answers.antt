@@ -9,21 +9,21 @@ use Rattle.settling.proofs.trip.Trip.denied_heads.Goals as goal
 
 pub returns-then-branch : goal.returns-then-branch
 returns-then-branch g c =
-    let b = c.args.self.now.book.now in
-    let B = g.B.TermBook.book b in
+    let t = c.args.self.now in
+    let B = g.B.TermBook.book t.book.now in
     let at = c.args.at.now in
     let w = c.width.ensures in
     let closed = answered c.in_ok-close.ensures in
     gives_map c.full.result
     (λ D is.
-    denies_all B (g.met.B.TermBook.lawful b) c.args.self.now.lines.now c.args.self.now.facts.now at c.args.self.now.goes c.requires D
+    denies_all B (g.met.B.TermBook.lawful t.book.now) t.lines.now t.facts.now at t.goes c.requires D
     (subst (λ (n : ℕ). IsSet D n (below n)) w is) (holds (sym closed.clash ∙ c.if-branch.true)))
     (passed (set_width at c.width.result (w ∙ sym c.requires)) c.full.ensures)
 
 pub returns : goal.returns
 returns g c =
-    let b = c.args.self.now.book.now in
-    let B = g.B.TermBook.book b in
+    let t = c.args.self.now in
+    let B = g.B.TermBook.book t.book.now in
     let at = c.args.at.now in
     let closed = answered c.in_ok-close.ensures in
     let heads = c.all_heads-tried.ensures in
@@ -32,7 +32,7 @@ returns g c =
     let e : marks_of c.subtract.new.self ≡ all ∖ B.closure (marks_of at) = tried.marks ∙ ap (λ (X : Marks). all ∖ X) closed.set.marks in
     gives_map c.denied_among.result
     (λ D is.
-    denies_tried B (g.met.B.TermBook.lawful b) c.args.self.now.lines.now c.args.self.now.facts.now at c.args.self.now.goes c.requires all D heads.facts heads.heads
+    denies_tried B (g.met.B.TermBook.lawful t.book.now) t.lines.now t.facts.now at t.goes c.requires all D heads.facts heads.heads
     (fails (sym closed.clash ∙ c.if-branch.false))
     (subst (λ (X : Marks). IsSet D B.width (denied_below B (marks_of at) X B.width)) e is))
     c.denied_among.ensures

@@ -7,8 +7,9 @@ use Rattle.settling.proofs.trip.Trip.sound.Goals as goal
 
 pub returns : goal.returns
 returns g c =
+    let t = c.args.self.now in
     let full = c.in_ok-full_of.ensures in
     gives_map c.same_marks.result
-    (λ b. sound_by (g.B.TermBook.book c.args.self.now.book.now) (rules_of c.args.self.now.lines.now) (marks_of c.args.self.now.facts.now) (marks_of c.args.set.now) (marks_of c.in_ok-full_of.field-0) b
+    (λ b. sound_by (g.B.TermBook.book t.book.now) (rules_of t.lines.now) (marks_of t.facts.now) (marks_of c.args.set.now) (marks_of c.in_ok-full_of.field-0) b
     (sym c.in_ok-clashes.ensures ∙ c.if-branch.false) full.yield)
     (passed (λ differ. differ (full.width ∙ sym c.requires)) c.same_marks.ensures)
