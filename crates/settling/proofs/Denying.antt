@@ -1,6 +1,7 @@
 -- Which heads a book denies at a set.
 use Rattle.std.proofs.Common.{◌≡◌, ℕ, ◌+◌, ◌<◌, ◌≤◌, Bool, true, false, ◌&&◌, ◌||◌, eqb, ltb, ◌⊎◌, List, Result, sym, refl, ap, ◌∙◌, subst, ap₂, inl, inr, ⊎_elim, arith, ltb→lt, lt→ltb}
 use mathlib.Core.Bool.{and-true}
+use mathlib.Core.List.Memᴰ
 use mathlib.Core.Path.{fun_ext}
 use Rattle.std.proofs.lemmas.Bool.{cases_lt, cases_eq, cases_Bool, eq-eqb, ne_eqb, lt-ltb, le-ltb, and_left, and_right}
 use Rattle.std.proofs.lemmas.Bool.Decides.{nat_tests}
@@ -21,7 +22,7 @@ use Rattle.lines.specs.declared.fare.FareLine.{FareLine}
 use Rattle.settling.specs.Calls.{GoesWith}
 use Rattle.settling.specs.Growth.{rules_of, HeadIn, denied_below, DeniesHeads}
 use Rattle.settling.proofs.Answering.{gives_all}
-use Rattle.settling.proofs.Fares.{all_in_list, map_from}
+use Rattle.settling.proofs.Fares.{all_in_list}
 use Rattle.lines.proofs.Meaning.{lawful_lines_fit}
 
 -- what an insert leaves, refused or not: the set with the mark, if that is a mark of its width
@@ -137,10 +138,10 @@ module _ (B : Book) (law : Lawful B) (lines : List FareLine) (facts at : MarkSet
   head_there : (all : Marks) → marks_of facts ⊆ all → AllByRecursion (HeadIn facts.width all) lines → (r : Rule) → Counts (rules_of lines) (marks_of facts) r → r.head ∈ all
   head_there all f h r (stands {m} t) = f m t
   head_there all f h r (line i) =
-      let from = map_from rule_of lines r i in
+      let from = Memᴰ.of_map rule_of lines i in
       let l = from.0 in
       let law_of = all_in_list (LawfulFare B.width) lines goes.lawful.each l from.1 in
-      subst (λ (x : Rule). x.head ∈ all) (sym from.2)
+      subst (λ (x : Rule). x.head ∈ all) from.2
       (all_in_list (HeadIn facts.width all) lines h l from.1 (let e = goes.width in let k = law_of.head in omega arith))
 
   -- so it is enough to try the other heads

@@ -25,29 +25,16 @@ all_in_list P [] all x i = absurd (Memᴰ.not-nil i)
 all_in_list P (y ∷ ys) all x i =
     elim (Memᴰ.cases_cons i) [ inl e ↦ subst P (sym e) all.0 | inr j ↦ all_in_list P ys all.1 x j ]
 
--- what is in a mapped list came from an element, and each element is there
-pub map_from : {A C : Type 0} (f : A → C) (xs : List A) (y : C) → Memᴰ y (map f xs) → (x : A) × Memᴰ x xs × (y ≡ f x)
-map_from f [] y i = absurd (Memᴰ.not-nil i)
-map_from f (x ∷ xs) y i =
-    elim (Memᴰ.cases_cons i) [
-      | inl e ↦ (x, Memᴰ.head refl, e)
-      | inr j ↦ let r = map_from f xs y j in (r.0, Memᴰ.tail r.1, r.2)
-    ]
-
-pub map_to : {A C : Type 0} (f : A → C) (xs : List A) (x : A) → Memᴰ x xs → Memᴰ (f x) (map f xs)
-map_to f [] x i = absurd (Memᴰ.not-nil i)
-map_to f (y ∷ ys) x i =
-    elim (Memᴰ.cases_cons i) [ inl e ↦ Memᴰ.head (ap f e) | inr j ↦ Memᴰ.tail (map_to f ys x j) ]
-
 module _ (rs : List Rule) (E D R Z : Marks) where
   -- a set that has the heads of the rules has what a pass over them brings in
   pub heads_seen : (w : ℕ) → HasHeads (LineLetIn rs E D R) Z → HasTheirHeads w (map (rule_view E D R) rs) Z
   heads_seen w has v m f is l =
-      let from = map_from (rule_view E D R) rs v f.line in
+      let from = Memᴰ.of_map (rule_view E D R) rs f.line in
+      let is_view = sym from.2 in
       let r = from.0 in
-      let t : T (admits E D R r) = subst (λ (x : View). T x.admitted) from.2 f.admitted in
-      let conditions : AllIn r.conditions Z = subst (λ (x : View). AllIn x.conditions Z) from.2 f.conditions in
-      let e : ◌≡◌ {A = ℕ} r.head m = let h : Some r.head ≡ Some m = sym (ap (λ (x : View). x.head) from.2) ∙ is in cc in
+      let t : T (admits E D R r) = subst (λ (x : View). T x.admitted) is_view f.admitted in
+      let conditions : AllIn r.conditions Z = subst (λ (x : View). AllIn x.conditions Z) is_view f.conditions in
+      let e : ◌≡◌ {A = ℕ} r.head m = let h : Some r.head ≡ Some m = ap (λ (x : View). x.head) from.2 ∙ is in cc in
       subst (λ (k : ℕ). k ∈ Z) e
       (has r (record { line = from.1; admitted = (admission_stands E D R r).0 (is_true (admits E D R r) t) }) conditions)
 
@@ -55,7 +42,7 @@ module _ (rs : List Rule) (E D R Z : Marks) where
   pub heads_brought : (w : ℕ) → ((r : Rule) → Memᴰ r rs → RuleWithin w r) → HasTheirHeads w (map (rule_view E D R) rs) Z → HasHeads (LineLetIn rs E D R) Z
   heads_brought w within has r p conditions =
       has (rule_view E D R r) r.head
-      (record { line = map_to (rule_view E D R) rs r p.line; admitted = holds ((admission_stands E D R r).1 p.admitted); conditions = conditions })
+      (record { line = Memᴰ.map (rule_view E D R) p.line; admitted = holds ((admission_stands E D R r).1 p.admitted); conditions = conditions })
       refl (ltb→lt r.head w (within r p.line).head)
 
 -- facts and fare lines that go with a lawful book fit it

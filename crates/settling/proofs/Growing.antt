@@ -1,7 +1,7 @@
 -- How a set grows, turn by turn, to the least closed set around it that has the heads of the admitted fare lines.
-use Rattle.std.proofs.Common.{◌≡◌, ℕ, ◌-◌, ◌<◌, Bool, true, false, not, List, map, sym, refl, ap, ◌∙◌, subst, arith}
+use Rattle.std.proofs.Common.{◌≡◌, ℕ, ◌-◌, ◌<◌, Bool, true, false, not, List, map, sym, ap, ◌∙◌, subst, arith}
 use mathlib.Core.List.{map-map}
-use Rattle.std.proofs.lemmas.Bool.{true≢false, false≢true, not-true}
+use Rattle.std.proofs.lemmas.Bool.{true≢false, false≢true, not-true, not-false}
 use Rattle.marks.specs.declared.set.MarkSet.{MarkSet}
 use Rattle.marks.specs.MarkSets.{marks_of}
 use Rattle.marks.specs.Sets.{Marks, ◌⊆◌, OfWidth, size}
@@ -25,7 +25,7 @@ use Rattle.settling.specs.Growth.{rules_of, LineLetInBy, Grown, Turned}
 use Rattle.settling.proofs.Fares.{heads_seen, heads_brought}
 use Rattle.lines.proofs.Meaning.{lawful_lines_fit}
 
-module _ (B : Book) (law : Lawful B) (lines : List FareLine) (gate : Admission) (lawful : LawfulFares B.width lines) where
+module _ {B : Book} (law : Lawful B) {lines : List FareLine} (gate : Admission) (lawful : LawfulFares B.width lines) where
   abbrev E : Marks
   E = marks_of gate.exceptions
 
@@ -42,7 +42,7 @@ module _ (B : Book) (law : Lawful B) (lines : List FareLine) (gate : Admission) 
   seen : map (fare_view gate) lines ≡ views
   seen = sym (map-map (rule_view E D R) rule_of lines)
 
-  module _ (before after : MarkSet) (p : Passed) (width : before.width ≡ B.width) (done : Passes (map (fare_view gate) lines) before after p) where
+  module _ {before after : MarkSet} {p : Passed} (width : before.width ≡ B.width) (done : Passes (map (fare_view gate) lines) before after p) where
     abbrev S : Marks
     S = marks_of before
 
@@ -60,8 +60,9 @@ module _ (B : Book) (law : Lawful B) (lines : List FareLine) (gate : Admission) 
     of_width h = subst (λ (w : ℕ). OfWidth w (marks_of after)) (done.set.width ∙ width) after.inside
 
     -- a turn in which nothing was brought in
-    pub turned_none : p.added ≡ false → Turned B (LineLetInBy lines gate) before after false
-    turned_none none =
+    pub turned_none : not p.added ≡ true → Turned B (LineLetInBy lines gate) before after false
+    turned_none is =
+        let none : p.added ≡ false = not-true p.added is in
         let same : marks_of after ≡ S = done.added.0 (ap not none) in
         let rests : swept B.width views S ≡ S = sym swept_to ∙ same in
         record {
@@ -76,12 +77,13 @@ module _ (B : Book) (law : Lawful B) (lines : List FareLine) (gate : Admission) 
         }
 
     -- a turn in which something was, and the set was closed
-    pub turned_some : (closed : MarkSet) (clash : Bool) → p.added ≡ true → ClosedTo B after closed clash → Turned B (LineLetInBy lines gate) before closed true
-    turned_some closed clash some to =
+    pub turned_some : {closed : MarkSet} {clash : Bool} → not p.added ≡ false → ClosedTo B after closed clash → Turned B (LineLetInBy lines gate) before closed true
+    turned_some {closed} not_none to =
+        let some : p.added ≡ true = not-false p.added not_none in
         let w = B.width in
         let wide : OfWidth w S = subst (λ (n : ℕ). OfWidth n S) width before.inside in
         let wide' = of_width wide in
-        let differ : swept w views S ≡ S → ⊥ = λ e. true≢false (sym some ∙ differs (done.added.1 (swept_to ∙ e))) in
+        let differ : swept w views S ≡ S → ⊥ = λ e. true≢false (sym some ∙ not-true p.added (done.added.1 (swept_to ∙ e))) in
         let more = swept_more w views S wide differ in
         let swelled : marks_of after ⊆ B.closure (marks_of after) = law.extensive (marks_of after) wide' in
         let grown = size_grows w (marks_of after) (B.closure (marks_of after)) swelled in
@@ -97,9 +99,6 @@ module _ (B : Book) (law : Lawful B) (lines : List FareLine) (gate : Admission) 
           closed = λ _. subst (Closed B) (sym is) (law.idempotent (marks_of after) wide');
           rests = λ e. absurd (true≢false e);
         }
-      where
-        differs : not p.added ≡ true → p.added ≡ false
-        differs e = not-true p.added e
 
 -- X came from A by turns: it is closed, and lies around A and within every closed set around A that has the heads
 pub record Growing (B : Book) (P : Rule → Type 0) (A : MarkSet) (X : MarkSet) : Type 0 where
@@ -108,13 +107,13 @@ pub record Growing (B : Book) (P : Rule → Type 0) (A : MarkSet) (X : MarkSet) 
   pub closed : Closed B (marks_of X)
   pub least : (Z : Marks) → OfWidth B.width Z → Closed B Z → HasHeads P Z → marks_of A ⊆ Z → marks_of X ⊆ Z
 
-module _ (B : Book) (law : Lawful B) (P : Rule → Type 0) where
-  wide : (X : MarkSet) → X.width ≡ B.width → OfWidth B.width (marks_of X)
-  wide X e = subst (λ (w : ℕ). OfWidth w (marks_of X)) e X.inside
+wide : {w : ℕ} (X : MarkSet) → X.width ≡ w → OfWidth w (marks_of X)
+wide X e = subst (λ (w : ℕ). OfWidth w (marks_of X)) e X.inside
 
+module _ {B : Book} (law : Lawful B) {P : Rule → Type 0} where
   -- a set that was just closed
-  pub growing_start : (A X : MarkSet) (clash : Bool) → A.width ≡ B.width → ClosedTo B A X clash → Growing B P X X
-  growing_start A X clash e to =
+  pub growing_start : {A X : MarkSet} {clash : Bool} → A.width ≡ B.width → ClosedTo B A X clash → Growing B P X X
+  growing_start {A} e to =
       record {
         width = to.set.width;
         around = λ m t. t;
@@ -122,8 +121,8 @@ module _ (B : Book) (law : Lawful B) (P : Rule → Type 0) where
         least = λ Z z c heads s. s;
       }
 
-  pub growing_on : (A X Y : MarkSet) (added : Bool) → Growing B P A X → Turned B P X Y added → Growing B P A Y
-  growing_on A X Y added g t =
+  pub growing_on : {A X Y : MarkSet} {added : Bool} → Growing B P A X → Turned B P X Y added → Growing B P A Y
+  growing_on g t =
       record {
         width = t.width;
         around = λ m u. t.around m (g.around m u);
@@ -132,9 +131,9 @@ module _ (B : Book) (law : Lawful B) (P : Rule → Type 0) where
       }
 
   -- a turn that brought nothing in ends it: with the closing before the first turn, A has grown to Y
-  pub growing_end : (A C X Y : MarkSet) (clash : Bool) → A.width ≡ B.width → ClosedTo B A C clash → Growing B P C X → Turned B P X Y false → Grown B P A Y
-  growing_end A C X Y clash e to g t =
-      let h = growing_on C X Y false g t in
+  pub growing_end : {A C X Y : MarkSet} {clash added : Bool} → A.width ≡ B.width → ClosedTo B A C clash → Growing B P C X → Turned B P X Y added → added ≡ false → Grown B P A Y
+  growing_end {A} {C} {X} {Y} e to g t none =
+      let h = growing_on g t in
       let is = to.set.marks in
       record {
         width = h.width;
@@ -142,16 +141,16 @@ module _ (B : Book) (law : Lawful B) (P : Rule → Type 0) where
           of_width = wide Y h.width;
           around = λ m u. h.around m (equal_within (sym is) m (law.extensive (marks_of A) (wide A e) m u));
           closed = h.closed;
-          heads = t.rests refl;
+          heads = t.rests none;
           least = λ Z z s c heads.
               h.least Z z c heads (λ m u. equal_within c m (law.monotone (marks_of A) Z (wide A e) z s m (equal_within is m u)));
         };
       }
 
 -- the set that is left to grow falls
-pub room_falls : (B : Book) (P : Rule → Type 0) (X Y : MarkSet) → Turned B P X Y true
+pub room_falls : {B : Book} {P : Rule → Type 0} {X Y : MarkSet} {added : Bool} → Turned B P X Y added → added ≡ true
     → B.width - size B.width (marks_of Y) < B.width - size B.width (marks_of X)
-room_falls B P X Y t =
-    let more = t.more refl in
+room_falls {B} {Y = Y} t some =
+    let more = t.more some in
     let le = size_le B.width (marks_of Y) in
     omega arith

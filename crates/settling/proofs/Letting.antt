@@ -41,9 +41,9 @@ module _ (lines : List Rule) (facts E D R : Marks) (Z : Marks) where
       go r (stands {m} t) a c = f m (less_in facts D m t a.head)
 
 -- a set that was grown from the facts that are not denied, by the fare lines, was grown by both
-pub grown_with_facts : (B : Book) (lines : List FareLine) (facts : MarkSet) (gate : Admission) (before mid after : MarkSet)
+pub grown_with_facts : {B : Book} (lines : List FareLine) (facts : MarkSet) (gate : Admission) {before mid after : MarkSet}
     → marks_of mid ≡ marks_of before ∪ (marks_of facts ∖ marks_of gate.denied) → Grown B (LineLetInBy lines gate) mid after → Grown B (LetInBy lines facts gate) before after
-grown_with_facts B lines facts gate before mid after is g =
+grown_with_facts {B} lines facts gate {before} {mid} {after} is g =
     let ls = rules_of lines in
     let S = marks_of before in
     let F = marks_of facts in

@@ -7,6 +7,7 @@ pub mod Yielding
 pub mod Rounding
 pub mod FirstGoing
 pub mod SecondGoing
+pub mod Ways
 pub mod Settles
 pub mod Judging
 pub mod Founding

@@ -1,5 +1,5 @@
 -- A loop of rounds: from the start of a method to the first round that changes nothing.
-use Rattle.std.proofs.Common.{◌≡◌, ℕ, suc, ◌+◌, ◌*◌, ◌<◌, ◌≤◌, true, false, ◌⊎◌, sym, refl, subst, subst₂, inl, inr, arith}
+use Rattle.std.proofs.Common.{◌≡◌, ℕ, suc, ◌+◌, ◌*◌, ◌<◌, ◌≤◌, Bool, true, false, ◌⊎◌, sym, refl, subst, subst₂, inl, inr, arith}
 use Rattle.std.proofs.lemmas.Bool.{cases_lt}
 use Rattle.marks.specs.declared.set.MarkSet.{MarkSet}
 use Rattle.marks.specs.MarkSets.{marks_of}
@@ -30,19 +30,19 @@ module _ (W : Way) (w : ℕ) (left : Marks → Marks → ℕ) (way : GoingWay W 
       let e = run_once run run₁ in
       way.once T₁ V₁ T' V' T₁' V₁' (subst₂ (λ (X Y : Marks). W.round X Y T' V') e.0 e.1 r) r₁
 
-  pub going_start : (T V : MarkSet) → T.width ≡ w → V.width ≡ w → marks_of T ≡ no_marks → marks_of V ≡ W.start → Going W w left 1 T V
-  going_start T V tw vw t v =
+  pub going_start : {T V : MarkSet} → T.width ≡ w → V.width ≡ w → marks_of T ≡ no_marks → marks_of V ≡ W.start → Going W w left 1 T V
+  going_start {T} {V} tw vw t v =
       let run : Run W 0 (marks_of T) (marks_of V) = subst₂ (λ (X Y : Marks). Run W 0 X Y) (sym t) (sym v) start in
       let l : left (marks_of T) (marks_of V) ≤ 2 * w = subst₂ (λ (X Y : Marks). left X Y ≤ 2 * w) (sym t) (sym v) way.start in
       record { lower = tw; other = vw; before = 0; count = refl; run = run; moving = λ j T' V' h. absurd (omega arith); few = omega arith }
 
-  module _ (n : ℕ) (T V T' V' : MarkSet) (go : Going W w left n T V) where
-    pub going_less : Rounded W w T V T' V' true → left (marks_of T') (marks_of V') < left (marks_of T) (marks_of V)
-    going_less r = way.falls go.before (marks_of T) (marks_of V) (marks_of T') (marks_of V') go.run r.round (r.differ refl)
+  module _ {n : ℕ} {T V T' V' : MarkSet} (go : Going W w left n T V) where
+    pub going_less : {changed : Bool} → Rounded W w T V T' V' changed → changed ≡ true → left (marks_of T') (marks_of V') < left (marks_of T) (marks_of V)
+    going_less r is = way.falls go.before (marks_of T) (marks_of V) (marks_of T') (marks_of V') go.run r.round (r.differ is)
 
-    pub going_on : Rounded W w T V T' V' true → Going W w left (n + 1) T' V'
-    going_on r =
-        let less = going_less r in
+    pub going_on : {changed : Bool} → Rounded W w T V T' V' changed → changed ≡ true → Going W w left (n + 1) T' V'
+    going_on r is =
+        let less = going_less r is in
         let few = go.few in
         let c = go.count in
         record {
@@ -62,16 +62,13 @@ module _ (W : Way) (w : ℕ) (left : Marks → Marks → ℕ) (way : GoingWay W 
             let same = run_once (subst (λ (k : ℕ). Run W k X Y) e run) go.run in
             let here : W.round (marks_of T) (marks_of V) (marks_of T) (marks_of V) = subst₂ (λ (A C : Marks). W.round A C A C) same.0 same.1 rest in
             let u = way.once (marks_of T) (marks_of V) (marks_of T') (marks_of V') (marks_of T) (marks_of V) r.round here in
-            r.differ refl u.0 u.1
+            r.differ is u.0 u.1
 
     -- the round that changed nothing is the last
-    pub going_end : Rounded W w T V T' V' false → Stops W n (marks_of T') (W.upper (marks_of V'))
-    going_end r =
-        let same = r.same refl in
+    pub going_end : {changed : Bool} → Rounded W w T V T' V' changed → changed ≡ false → Stops W n (marks_of T') (W.upper (marks_of V'))
+    going_end r is =
+        let same = r.same is in
         let last : W.round (marks_of T) (marks_of V) (marks_of T) (marks_of V) =
         subst₂ (λ (A C : Marks). W.round (marks_of T) (marks_of V) A C) same.0 same.1 r.round in
         subst₂ (λ (A C : Marks). Stops W n A (W.upper C)) (sym same.0) (sym same.1)
         (record { before = go.before; count = go.count; other = marks_of V; run = go.run; last = last; first = go.moving; upper = refl })
-
-    pub going_few : n ≤ 2 * w + 1
-    going_few = let f = go.few in omega arith

@@ -1,88 +1,109 @@
 -- What grows through a gate is a yield, or one of the two sets of the second method.
-use Rattle.std.proofs.Common.{◌≡◌, ℕ, List, sym, subst}
+use Rattle.std.proofs.Common.{◌≡◌, List, sym, subst}
 use Rattle.marks.specs.declared.set.MarkSet.{MarkSet}
 use Rattle.marks.specs.MarkSets.{marks_of}
-use Rattle.marks.specs.Sets.{Marks, ◌∈◌, no_marks, below, outside}
+use Rattle.marks.specs.Sets.{Marks, no_marks, below, outside}
 use Rattle.marks.proofs.Sets.{equal_within}
 use Rattle.readings.specs.Books.{Book}
-use Rattle.readings.specs.Methods.{PastExceptions, NotRefuted}
 use Rattle.readings.specs.Rules.{Rule, Counts, Fit, AllIn, NoneIn}
-use Rattle.readings.specs.Yields.{LeastClosed, Full, Guarded}
+use Rattle.readings.specs.Yields.{LeastClosed}
 use Rattle.readings.proofs.Closing.{least_by}
 use Rattle.readings.proofs.Sets.{less_out, not_outside}
 use Rattle.readings.proofs.Yields.{counts_within}
+use Rattle.lines.specs.declared.admission.Admission.{Admission}
 use Rattle.lines.specs.declared.fare.FareLine.{FareLine}
-use Rattle.settling.specs.Growth.{rules_of, LetIn, DeniesHeads}
+use Rattle.settling.specs.Calls.{FullYield, GuardedYield}
+use Rattle.settling.specs.Growth.{rules_of, LetInBy, Grown, DeniesHeads}
+use Rattle.settling.specs.Rounding.{GrownPast, KeptAt}
 
--- an empty set refutes and denies nothing
-none_out : (X : Marks) → X ≡ no_marks → (m : ℕ) → m ∈ X → ⊥
-none_out X e m t = equal_within e m t
+module _ {B : Book} (lines : List FareLine) (facts : MarkSet) (gate : Admission) {start x : MarkSet} (grown : Grown B (LetInBy lines facts gate) start x) where
+  abbrev S : Marks
+  S = marks_of start
 
-module _ (B : Book) (lines : List Rule) (facts : Marks) where
-  from_nothing : (P : Rule → Type 0) (A X : Marks) → A ≡ no_marks → LeastClosed B A P X → LeastClosed B no_marks P X
-  from_nothing P A X e p = subst (λ (Y : Marks). LeastClosed B Y P X) e p
+  abbrev D : Marks
+  D = marks_of gate.denied
 
-  pub full_grown : (S D R A X : Marks) → A ≡ no_marks → D ≡ no_marks → R ≡ no_marks → LeastClosed B A (LetIn lines facts S D R) X → Full B lines facts S X
-  full_grown S D R A X a d r p =
-      least_by
-      (λ x l. record { counts = l.counts; exceptions = l.admitted.exceptions })
-      (λ x l.
-      record { counts = l.counts; admitted = record { exceptions = l.exceptions; head = none_out D d x.head; conditions = λ m _. none_out R r m } })
-      (from_nothing _ A X a p)
+  abbrev R : Marks
+  R = marks_of gate.refuted
 
-module _ (B : Book) (lines : List FareLine) (facts at denied : MarkSet) (heads : DeniesHeads B lines facts at denied) where
-  pub guarded_grown : (R A X : Marks) → A ≡ no_marks → R ≡ no_marks
-      → LeastClosed B A (LetIn (rules_of lines) (marks_of facts) (marks_of at) (marks_of denied) R) X → Guarded B (rules_of lines) (marks_of facts) (marks_of at) X
-  guarded_grown R A X a r p =
-      least_by
-      (λ x l.
+  from_nothing : S ≡ no_marks → LeastClosed B no_marks (LetInBy lines facts gate) (marks_of x)
+  from_nothing e = subst (λ (Y : Marks). LeastClosed B Y (LetInBy lines facts gate) (marks_of x)) e grown.least
+
+  pub full_grown : S ≡ no_marks → D ≡ no_marks → R ≡ no_marks → FullYield B lines facts gate.exceptions x
+  full_grown s d r =
       record {
-        admitted = record { counts = l.counts; exceptions = l.admitted.exceptions };
-        head = λ d. l.admitted.head (heads.others x l.counts d);
-      })
-      (λ x l.
-      record {
-        counts = l.admitted.counts;
-        admitted = record { exceptions = l.admitted.exceptions; head = λ t. l.head (heads.held x l.admitted.counts t); conditions = λ m _. none_out R r m };
-      })
-      (from_nothing B (rules_of lines) (marks_of facts) _ A X a p)
+        width = grown.width;
+        yield =
+            least_by
+            (λ y l. record { counts = l.counts; exceptions = l.admitted.exceptions })
+            (λ y l.
+            record {
+              counts = l.counts;
+              admitted = record { exceptions = l.exceptions; head = equal_within d y.head; conditions = λ m _. equal_within r m };
+            })
+            (from_nothing s);
+      }
 
-module _ (B : Book) (lines : List Rule) (facts : Marks) (fit : Fit B lines facts) where
-  -- no exception lies outside F exactly when all lie in F
-  all_in_F : (F : Marks) (r : Rule) → Counts lines facts r → NoneIn r.exceptions (outside B.width F) → AllIn r.exceptions F
-  all_in_F F r c none m i = not_outside B.width F m ((counts_within fit c).exceptions m i) (none m i)
+  pub guarded_grown : S ≡ no_marks → DeniesHeads B lines facts gate.exceptions gate.denied → R ≡ no_marks → GuardedYield B lines facts gate.exceptions x
+  guarded_grown s heads r =
+      record {
+        width = grown.width;
+        yield =
+            least_by
+            (λ y l.
+            record {
+              admitted = record { counts = l.counts; exceptions = l.admitted.exceptions };
+              head = λ d. l.admitted.head (heads.others y l.counts d);
+            })
+            (λ y l.
+            record {
+              counts = l.admitted.counts;
+              admitted = record { exceptions = l.admitted.exceptions; head = λ t. l.head (heads.held y l.admitted.counts t); conditions = λ m _. equal_within r m };
+            })
+            (from_nothing s);
+      }
 
-  pub grown_past_F : (F E D R A X : Marks) → E ≡ outside B.width F → D ≡ no_marks → R ≡ no_marks → LeastClosed B A (LetIn lines facts E D R) X → LeastClosed B A (PastExceptions B lines facts F) X
-  grown_past_F F E D R A X e d r p =
-      least_by
-      (λ x l. record { counts = l.counts; exceptions = all_in_F F x l.counts (λ m i t. l.admitted.exceptions m i (equal_within (sym e) m t)) })
-      (λ x l.
+  pub kept_grown : S ≡ no_marks → DeniesHeads B lines facts gate.exceptions gate.denied → KeptAt B lines facts gate.exceptions gate.refuted x
+  kept_grown s heads =
       record {
-        counts = l.counts;
-        admitted = record {
-          exceptions = λ m i t. less_out (below B.width) F m (equal_within e m t) (l.exceptions m i);
-          head = none_out D d x.head;
-          conditions = λ m _. none_out R r m;
-        };
-      })
-      p
+        width = grown.width;
+        kept =
+            least_by
+            (λ y l.
+            record {
+              counts = l.counts;
+              conditions = l.admitted.conditions;
+              exceptions = l.admitted.exceptions;
+              head = λ d. l.admitted.head (heads.others y l.counts d);
+            })
+            (λ y l.
+            record {
+              counts = l.counts;
+              admitted = record { exceptions = l.exceptions; head = λ t. l.head (heads.held y l.counts t); conditions = l.conditions };
+            })
+            (from_nothing s);
+      }
 
-module _ (B : Book) (lines : List FareLine) (facts at denied : MarkSet) (heads : DeniesHeads B lines facts at denied) where
-  pub kept_grown : (F A X : Marks) → A ≡ no_marks
-      → LeastClosed B A (LetIn (rules_of lines) (marks_of facts) (marks_of at) (marks_of denied) F) X
-      → LeastClosed B no_marks (NotRefuted B (rules_of lines) (marks_of facts) F (marks_of at)) X
-  kept_grown F A X a p =
-      least_by
-      (λ x l.
-      record {
-        counts = l.counts;
-        conditions = l.admitted.conditions;
-        exceptions = l.admitted.exceptions;
-        head = λ d. l.admitted.head (heads.others x l.counts d);
-      })
-      (λ x l.
-      record {
-        counts = l.counts;
-        admitted = record { exceptions = l.exceptions; head = λ t. l.head (heads.held x l.counts t); conditions = l.conditions };
-      })
-      (from_nothing B (rules_of lines) (marks_of facts) _ A X a p)
+  module _ (fit : Fit B (rules_of lines) (marks_of facts)) (F : MarkSet) (outer : marks_of gate.exceptions ≡ outside B.width (marks_of F)) where
+    -- no exception lies outside F exactly when all lie in F
+    all_in_F : (y : Rule) → Counts (rules_of lines) (marks_of facts) y → NoneIn y.exceptions (outside B.width (marks_of F)) → AllIn y.exceptions (marks_of F)
+    all_in_F y c none m i = not_outside B.width (marks_of F) m ((counts_within fit c).exceptions m i) (none m i)
+
+    pub grown_past_F : D ≡ no_marks → R ≡ no_marks → GrownPast B lines facts start F x
+    grown_past_F d r =
+        record {
+          width = grown.width;
+          grown =
+              least_by
+              (λ y l. record { counts = l.counts; exceptions = all_in_F y l.counts (λ m i t. l.admitted.exceptions m i (equal_within (sym outer) m t)) })
+              (λ y l.
+              record {
+                counts = l.counts;
+                admitted = record {
+                  exceptions = λ m i t. less_out (below B.width) (marks_of F) m (equal_within outer m t) (l.exceptions m i);
+                  head = equal_within d y.head;
+                  conditions = λ m _. equal_within r m;
+                };
+              })
+              grown.least;
+        }

@@ -13,4 +13,4 @@ use Rattle.settling.specs.declared.settle.Judged.{Judged}
 -- the least reading, found by that method in its rounds, and the verdict that the rules give on it
 pub record Judges (B : Book) (lines : List FareLine) (facts : MarkSet) (method : Method) (j : Judged) : Type 0 where
   pub settled : Settles B lines facts method j.settled
-  pub verdict : (the_verdict j.verdict).says B (rules_of lines) (marks_of facts) (marks_of j.settled.lower) (marks_of j.settled.upper)
+  pub verdict : (the_verdict j.verdict).says B (rules_of lines) (marks_of facts) (marks_of j.settled.reading.lower) (marks_of j.settled.reading.upper)

@@ -6,7 +6,7 @@ use Rattle.readings.specs.Books.{Book}
 use Rattle.marks.specs.Sets.{no_marks}
 use Rattle.readings.specs.Methods.{Way, PastExceptions, NotRefuted}
 use Rattle.readings.specs.Readings.{LeastReading}
-use Rattle.readings.specs.Says.{Rounds}
+use Rattle.readings.specs.Says.{the_method, Rounds}
 use Rattle.readings.specs.Yields.{LeastClosed}
 use Rattle.readings.specs.declared.method.Method.{Method}
 use Rattle.lines.specs.declared.fare.FareLine.{FareLine}
@@ -30,6 +30,16 @@ pub record KeptAt (B : Book) (lines : List FareLine) (facts T F x : MarkSet) : T
   pub width : x.width ≡ B.width
   pub kept : LeastClosed B no_marks (NotRefuted B (rules_of lines) (marks_of facts) (marks_of F) (marks_of T)) (marks_of x)
 
+-- a method as a way of settling facts and fare lines in memory
+abbrev pub way_of : Method → Book → List FareLine → MarkSet → Way
+way_of k B lines facts = (the_method k).way B (rules_of lines) (marks_of facts)
+
+-- what one round of the way W makes of T and V, two sets of the width
+pub record MadeOf (W : Way) (w : ℕ) (T V : MarkSet) (next : MarkSet × MarkSet) : Type 0 where
+  pub lower : next.0.width ≡ w
+  pub other : next.1.width ≡ w
+  pub round : W.round (marks_of T) (marks_of V) (marks_of next.0) (marks_of next.1)
+
 -- one round of the way W turned T, V into T', V', and the answer is whether it changed either
 pub record Rounded (W : Way) (w : ℕ) (T V T' V' : MarkSet) (changed : Bool) : Type 0 where
   pub lower : T'.width ≡ w
@@ -41,9 +51,9 @@ pub record Rounded (W : Way) (w : ℕ) (T V T' V' : MarkSet) (changed : Bool) : 
 -- What a method answers: the least reading, and its rounds by its stopping rule, which are few. The other method ends with the
 -- same after as many.
 pub record Settles (B : Book) (lines : List FareLine) (facts : MarkSet) (method : Method) (s : Settled) : Type 0 where
-  pub lower : s.lower.width ≡ B.width
-  pub upper : s.upper.width ≡ B.width
-  pub reading : LeastReading B (rules_of lines) (marks_of facts) (marks_of s.lower) (marks_of s.upper)
-  pub rounds : Rounds B (rules_of lines) (marks_of facts) method s.rounds (marks_of s.lower) (marks_of s.upper)
+  pub lower : s.reading.lower.width ≡ B.width
+  pub upper : s.reading.upper.width ≡ B.width
+  pub reading : LeastReading B (rules_of lines) (marks_of facts) (marks_of s.reading.lower) (marks_of s.reading.upper)
+  pub rounds : Rounds B (rules_of lines) (marks_of facts) method s.rounds (marks_of s.reading.lower) (marks_of s.reading.upper)
   pub few : s.rounds ≤ B.width + 2
-  pub either : (other : Method) → Rounds B (rules_of lines) (marks_of facts) other s.rounds (marks_of s.lower) (marks_of s.upper)
+  pub either : (other : Method) → Rounds B (rules_of lines) (marks_of facts) other s.rounds (marks_of s.reading.lower) (marks_of s.reading.upper)

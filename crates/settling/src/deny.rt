@@ -1,29 +1,15 @@
 // Which heads the book denies at a set.
 ghost use Rattle.std.specs.Prelude.{◌≡◌, ◌<◌};
+ghost use Rattle.std.specs.List.{AllByRecursion};
 ghost use Rattle.marks.specs.MarkSets.{marks_of, IsSet};
 ghost use Rattle.marks.specs.Refusals.{Gives};
 ghost use Rattle.marks.specs.Sets.{◌⊆◌, with_mark};
-ghost use Rattle.std.specs.List.{AllByRecursion};
-ghost use Rattle.settling.specs.Calls.{GoesWith};
 ghost use Rattle.settling.specs.Growth.{HeadIn, denied_below, DeniesHeads};
 
+use crate::trip::Trip;
 use books::book::TermBook;
-use lines::fare::FareLine;
 use marks::refusal::Refusal;
 use marks::set::MarkSet;
-
-// The facts and the heads of the fare lines.
-fn all_heads(lines: &[FareLine], facts: &MarkSet) -> MarkSet
-    ensures width { result.width ≡ facts.now.width }
-    ensures facts { marks_of facts.now ⊆ marks_of result }
-    ensures heads { AllByRecursion (HeadIn facts.now.width (marks_of result)) lines.now }
-{
-    let mut heads = *facts;
-    for line in lines {
-        let _ = heads.insert(line.head);
-    }
-    heads
-}
 
 // Whether the book denies the mark at the set: one closing.
 fn denies<B: TermBook>(book: &B, at: &MarkSet, m: u16) -> Result<bool, Refusal>
@@ -57,23 +43,32 @@ pub(crate) fn denied_among<B: TermBook>(
     Ok(denied)
 }
 
-// The heads that the book denies at the set. Where it clashes there it denies them all; elsewhere it denies none that the
-// closure holds, so only the others are tried.
-pub(crate) fn denied_heads<B: TermBook>(
-    lines: &[FareLine],
-    book: &B,
-    facts: &MarkSet,
-    at: &MarkSet,
-) -> Result<MarkSet, Refusal>
-    requires goes { GoesWith (B.TermBook.book book.now) lines.now facts.now }
-    requires width { at.now.width ≡ (B.TermBook.book book.now).width }
-    ensures { Gives result (DeniesHeads (B.TermBook.book book.now) lines.now facts.now at.now) }
-{
-    let mut closed = *at;
-    if book.close(&mut closed)? {
-        return MarkSet::full(book.width());
+impl<B: TermBook> Trip<'_, B> {
+    // The facts and the heads of the fare lines.
+    fn all_heads(&self) -> MarkSet
+        ensures width { result.width ≡ self.now.facts.now.width }
+        ensures facts { marks_of self.now.facts.now ⊆ marks_of result }
+        ensures heads { AllByRecursion (HeadIn self.now.facts.now.width (marks_of result)) self.now.lines.now }
+    {
+        let mut heads = *self.facts;
+        for line in self.lines {
+            let _ = heads.insert(line.head);
+        }
+        heads
     }
-    let mut tried = all_heads(lines, facts);
-    tried.subtract(&closed)?;
-    denied_among(book, at, &tried)
+
+    // The heads that the book denies at the set. Where it clashes there it denies them all; elsewhere it denies none that the
+    // closure holds, so only the others are tried.
+    pub(crate) fn denied_heads(&self, at: &MarkSet) -> Result<MarkSet, Refusal>
+        requires { at.now.width ≡ (B.TermBook.book self.now.book.now).width }
+        ensures { Gives result (DeniesHeads (B.TermBook.book self.now.book.now) self.now.lines.now self.now.facts.now at.now) }
+    {
+        let mut closed = *at;
+        if self.book.close(&mut closed)? {
+            return MarkSet::full(self.book.width());
+        }
+        let mut tried = self.all_heads();
+        tried.subtract(&closed)?;
+        denied_among(self.book, at, &tried)
+    }
 }

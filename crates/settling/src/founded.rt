@@ -3,12 +3,10 @@ ghost use Rattle.marks.specs.Refusals.{Refuses, Gives, Test};
 ghost use Rattle.settling.specs.Calls.{LawfulFares};
 ghost use Rattle.settling.specs.Models.{IsModel};
 
-use crate::first::first_rounds;
+use crate::first::FirstWay;
 use crate::settled::complement;
-use crate::yields::MOST_FARES;
+use crate::trip::Trip;
 use books::bare::BareBook;
-use books::book::TermBook;
-use lines::check::check_records;
 use lines::fare::FareLine;
 use marks::refusal::Refusal;
 use marks::set::MarkSet;
@@ -20,24 +18,16 @@ pub struct Model {
     pub fails: MarkSet,
 }
 
-// The least reading with the bare book: what lies outside its U is not so.
-fn model_of(lines: &[FareLine], facts: &MarkSet) -> Result<Model, Refusal>
-    requires { LawfulFares facts.now.width lines.now }
-    ensures { Gives result (IsModel lines.now facts.now) }
-{
-    let book = BareBook::new(facts.width())?;
-    let settled = first_rounds(lines, &book, facts)?;
-    let fails = complement(&settled.upper)?;
-    Ok(Model {
-        holds: settled.lower,
-        fails,
-    })
-}
-
-// The well-founded model of the facts and fare lines, as Van Gelder, Ross and Schlipf defined it in 1991.
+// The well-founded model of the facts and fare lines, as Van Gelder, Ross and Schlipf defined it in 1991: the least reading with
+// the bare book, where what lies outside its U is not so.
 pub fn well_founded(lines: &[FareLine], facts: &MarkSet) -> Result<Model, Refusal>
     ensures { Test (LawfulFares facts.now.width lines.now → ⊥) (Refuses result 8) (Gives result (IsModel lines.now facts.now)) }
 {
-    check_records(lines, MOST_FARES, facts.width())?;
-    model_of(lines, facts)
+    let book = BareBook::new(facts.width())?;
+    let reading = Trip::of(lines, &book, facts)?.rounds::<FirstWay>()?.reading;
+    let fails = complement(&reading.upper)?;
+    Ok(Model {
+        holds: reading.lower,
+        fails,
+    })
 }

@@ -1,65 +1,49 @@
-// Growing a set to the least closed set around it that has the heads of the admitted fare lines.
+// Growing a set to the least closed set around it that has the heads of the admitted rules.
 ghost use Rattle.std.specs.Prelude.{◌≡◌};
 ghost use Rattle.marks.specs.Refusals.{Gives};
-ghost use Rattle.settling.specs.Calls.{LawfulFares, GoesWith};
 ghost use Rattle.settling.specs.Growth.{LetInBy, LineLetInBy, Grown, Turned};
 
+use crate::trip::Trip;
 use books::book::TermBook;
 use lines::admission::Admission;
-use lines::fare::FareLine;
 use lines::pass::pass;
 use marks::refusal::Refusal;
 use marks::set::MarkSet;
 
-// One pass over the fare lines and, where it added a mark, one closing. Says whether it added one.
-fn turn<B: TermBook>(
-    lines: &[FareLine],
-    book: &B,
-    gate: &Admission,
-    set: &mut MarkSet,
-) -> Result<bool, Refusal>
-    requires width { set.old.width ≡ (B.TermBook.book book.now).width }
-    requires lawful { LawfulFares (B.TermBook.book book.now).width lines.now }
-    ensures { Gives result (Turned (B.TermBook.book book.now) (LineLetInBy lines.now gate.now) set.old set.new) }
-{
-    if !pass(lines, gate, set).added {
-        return Ok(false);
+impl<B: TermBook> Trip<'_, B> {
+    // One pass over the fare lines and, where it added a mark, one closing. Says whether it added one.
+    fn turn(&self, gate: &Admission, set: &mut MarkSet) -> Result<bool, Refusal>
+        requires { set.old.width ≡ (B.TermBook.book self.now.book.now).width }
+        ensures { Gives result (Turned (B.TermBook.book self.now.book.now) (LineLetInBy self.now.lines.now gate.now) set.old set.new) }
+    {
+        if !pass(self.lines, gate, set).added {
+            return Ok(false);
+        }
+        self.book.close(set)?;
+        Ok(true)
     }
-    book.close(set)?;
-    Ok(true)
-}
 
-// Closes the set and brings fare lines in, in turn, until none adds anything.
-pub(crate) fn grow<B: TermBook>(
-    lines: &[FareLine],
-    book: &B,
-    gate: &Admission,
-    set: &mut MarkSet,
-) -> Result<(), Refusal>
-    requires width { set.old.width ≡ (B.TermBook.book book.now).width }
-    requires lawful { LawfulFares (B.TermBook.book book.now).width lines.now }
-    ensures { Gives result (λ _. Grown (B.TermBook.book book.now) (LineLetInBy lines.now gate.now) set.old set.new) }
-{
-    book.close(set)?;
-    while turn(lines, book, gate, set)? {}
-    Ok(())
-}
+    // Closes the set and brings fare lines in, in turn, until none adds anything.
+    fn grow(&self, gate: &Admission, set: &mut MarkSet) -> Result<(), Refusal>
+        requires { set.old.width ≡ (B.TermBook.book self.now.book.now).width }
+        ensures { Gives result (λ _. Grown (B.TermBook.book self.now.book.now) (LineLetInBy self.now.lines.now gate.now) set.old set.new) }
+    {
+        self.book.close(set)?;
+        while self.turn(gate, set)? {}
+        Ok(())
+    }
 
-// Grows the set to the least closed set around it that has the heads of all rules that the gate admits, facts and fare lines.
-pub(crate) fn grow_with_facts<B: TermBook>(
-    lines: &[FareLine],
-    book: &B,
-    facts: &MarkSet,
-    gate: &Admission,
-    set: &mut MarkSet,
-) -> Result<(), Refusal>
-    requires goes { GoesWith (B.TermBook.book book.now) lines.now facts.now }
-    requires width { set.old.width ≡ (B.TermBook.book book.now).width }
-    requires denied { gate.now.denied.width ≡ (B.TermBook.book book.now).width }
-    ensures { Gives result (λ _. Grown (B.TermBook.book book.now) (LetInBy lines.now facts.now gate.now) set.old set.new) }
-{
-    let mut admitted = *facts;
-    admitted.subtract(&gate.denied)?;
-    set.union_with(&admitted)?;
-    grow(lines, book, gate, set)
+    // What the set grows to by all rules that the gate admits, facts and fare lines.
+    pub(crate) fn grown(&self, start: &MarkSet, gate: &Admission) -> Result<MarkSet, Refusal>
+        requires width { start.now.width ≡ (B.TermBook.book self.now.book.now).width }
+        requires denied { gate.now.denied.width ≡ (B.TermBook.book self.now.book.now).width }
+        ensures { Gives result (Grown (B.TermBook.book self.now.book.now) (LetInBy self.now.lines.now self.now.facts.now gate.now) start.now) }
+    {
+        let mut admitted = *self.facts;
+        admitted.subtract(&gate.denied)?;
+        let mut set = *start;
+        set.union_with(&admitted)?;
+        self.grow(gate, &mut set)?;
+        Ok(set)
+    }
 }

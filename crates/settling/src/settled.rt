@@ -7,14 +7,12 @@ ghost use Rattle.settling.specs.Rounding.{Replaced};
 
 use marks::refusal::Refusal;
 use marks::set::MarkSet;
+use readings::reading::Reading;
 
-// The two sets of the least reading, and how many rounds it took to find them.
+// The least reading, and how many rounds it took to find it.
 #[derive(Clone, Copy)]
 pub struct Settled {
-    // what is certainly so
-    pub lower: MarkSet,
-    // what is not certainly not so
-    pub upper: MarkSet,
+    pub reading: Reading,
     pub rounds: u16,
 }
 

@@ -3,14 +3,13 @@ ghost use Rattle.std.specs.Prelude.{◌≡◌, Decides};
 ghost use Rattle.marks.specs.MarkSets.{marks_of};
 ghost use Rattle.marks.specs.Refusals.{Gives};
 ghost use Rattle.readings.specs.Says.{the_verdict, IsBroken};
-ghost use Rattle.settling.specs.Calls.{GoesWith};
 ghost use Rattle.settling.specs.Growth.{rules_of};
 
-use crate::yields::{full_of, guarded_of};
+use crate::trip::Trip;
 use books::book::TermBook;
-use lines::fare::FareLine;
 use marks::refusal::Refusal;
 use marks::set::MarkSet;
+use readings::reading::Reading;
 use readings::verdict::Verdict;
 
 // Whether the book clashes at the set as it is given.
@@ -23,39 +22,32 @@ pub(crate) fn clashes<B: TermBook>(book: &B, set: &MarkSet) -> Result<bool, Refu
 }
 
 // Whether the book clashes at the empty set, or a mark of T is not in U.
-fn broken<B: TermBook>(book: &B, lower: &MarkSet, upper: &MarkSet) -> Result<bool, Refusal>
-    requires lower { lower.now.width ≡ (B.TermBook.book book.now).width }
-    requires upper { upper.now.width ≡ (B.TermBook.book book.now).width }
-    ensures { Gives result (λ b. Decides b (IsBroken (B.TermBook.book book.now) (marks_of lower.now) (marks_of upper.now))) }
+fn broken<B: TermBook>(book: &B, reading: &Reading) -> Result<bool, Refusal>
+    requires { reading.now.lower.width ≡ (B.TermBook.book book.now).width }
+    ensures { Gives result (λ b. Decides b (IsBroken (B.TermBook.book book.now) (marks_of reading.now.lower) (marks_of reading.now.upper))) }
 {
     let none = MarkSet::empty(book.width())?;
     if clashes(book, &none)? {
         return Ok(true);
     }
-    Ok(!lower.is_subset(upper)?)
+    Ok(!reading.lower.is_subset(&reading.upper)?)
 }
 
-// The verdict that the rules give on T and U: broken, else suspect where the two yields of T differ, else clear.
-pub(crate) fn judge<B: TermBook>(
-    lines: &[FareLine],
-    book: &B,
-    facts: &MarkSet,
-    lower: &MarkSet,
-    upper: &MarkSet,
-) -> Result<Verdict, Refusal>
-    requires goes { GoesWith (B.TermBook.book book.now) lines.now facts.now }
-    requires lower { lower.now.width ≡ (B.TermBook.book book.now).width }
-    requires upper { upper.now.width ≡ (B.TermBook.book book.now).width }
-    ensures { Gives result (λ v. (the_verdict v).says (B.TermBook.book book.now) (rules_of lines.now) (marks_of facts.now) (marks_of lower.now) (marks_of upper.now)) }
-{
-    if broken(book, lower, upper)? {
-        return Ok(Verdict::Broken);
-    }
-    let full = full_of(lines, book, facts, lower)?;
-    let guarded = guarded_of(lines, book, facts, lower)?;
-    if full.same_marks(&guarded)? {
-        Ok(Verdict::Clear)
-    } else {
-        Ok(Verdict::Suspect)
+impl<B: TermBook> Trip<'_, B> {
+    // The verdict that the rules give on T and U: broken, else suspect where the two yields of T differ, else clear.
+    pub(crate) fn judge(&self, reading: &Reading) -> Result<Verdict, Refusal>
+        requires { reading.now.lower.width ≡ (B.TermBook.book self.now.book.now).width }
+        ensures { Gives result (λ v. (the_verdict v).says (B.TermBook.book self.now.book.now) (rules_of self.now.lines.now) (marks_of self.now.facts.now) (marks_of reading.now.lower) (marks_of reading.now.upper)) }
+    {
+        if broken(self.book, reading)? {
+            return Ok(Verdict::Broken);
+        }
+        let full = self.full_of(&reading.lower)?;
+        let guarded = self.guarded_of(&reading.lower)?;
+        if full.same_marks(&guarded)? {
+            Ok(Verdict::Clear)
+        } else {
+            Ok(Verdict::Suspect)
+        }
     }
 }

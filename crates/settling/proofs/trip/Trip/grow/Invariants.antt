@@ -1,0 +1,12 @@
+use Rattle.std.proofs.Common.{◌-◌}
+use Rattle.marks.specs.MarkSets.{marks_of}
+use Rattle.marks.specs.Sets.{size}
+use Rattle.settling.specs.Growth.{LineLetInBy}
+use Rattle.settling.proofs.Growing.{Growing}
+use Rattle.settling.proofs.trip.Trip.grow.Given as goal
+
+abbrev pub invariant-loop : goal.invariant-loop
+invariant-loop g l = Growing (g.B.TermBook.book l.self.book.now) (LineLetInBy l.self.lines.now l.gate) l.initial.set l.set
+
+abbrev pub decreases-loop : goal.decreases-loop
+decreases-loop g l = (g.B.TermBook.book l.self.book.now).width - size (g.B.TermBook.book l.self.book.now).width (marks_of l.set)
