@@ -10,7 +10,6 @@ ghost use Rattle.sheet.specs.declared.reply.Reply.TheVariants.{Done, Settled as 
 
 use super::facts::{enter_fact, settle_facts, strike_fact};
 use super::{Sheet, State};
-use crate::answer::answer_of;
 use crate::call::Call;
 use crate::reply::{Reply, Settlement};
 use books::bare::BareBook;
@@ -55,10 +54,7 @@ impl Sheet {
             }
             (Call::Settle(method), _) => {
                 let judged = settle_facts(&self.facts, lines, book, method)?;
-                self.state = State::Settled {
-                    lower: judged.settled.lower,
-                    upper: judged.settled.upper,
-                };
+                self.state = State::Settled(judged.settled.reading);
                 Ok(Reply::Settled(Settlement {
                     verdict: judged.verdict,
                     rounds: judged.settled.rounds,
@@ -66,9 +62,7 @@ impl Sheet {
             }
             (Call::Ask(m), _) if m >= self.facts.width() => Err(Refusal::MarkTooHigh),
             (Call::Ask(_), State::Unsettled) => Err(Refusal::NotSettled),
-            (Call::Ask(m), State::Settled { lower, upper }) => {
-                Ok(Reply::Told(answer_of(lower, upper, m)))
-            }
+            (Call::Ask(m), State::Settled(reading)) => Ok(Reply::Told(reading.answer(m))),
         }
     }
 
