@@ -17,7 +17,7 @@ fn settle_bytes(file: &[u8], facts: &[u8], out: &mut [u8]) -> Result<Verdict, Re
     let mut tables = Tables::blank();
     let set = read_inputs(file, facts, out.len(), &mut tables)?;
     let judged = settle_facts(&tables, &set);
-    write_answers(out, &judged.settled.lower, &judged.settled.upper);
+    write_answers(out, &judged.settled.reading);
     Ok(judged.verdict)
 }
 

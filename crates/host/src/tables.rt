@@ -48,12 +48,7 @@ impl Tables {
     pub(crate) fn load(&mut self, file: &[u8]) -> Result<(), FileFault>
         ensures { Loaded file.now self.new result }
     {
-        match read_tariff(file, &mut self.fares, &mut self.terms) {
-            Ok(counts) => {
-                self.counts = counts;
-                Ok(())
-            }
-            Err(fault) => Err(fault),
-        }
+        self.counts = read_tariff(file, &mut self.fares, &mut self.terms)?;
+        Ok(())
     }
 }

@@ -4,16 +4,16 @@ use Rattle.host.proofs.Writing.{put_none, put_more, put_all}
 use Rattle.host.proofs.answers.put_answers.Goals as goal
 
 pub loop-m-init : goal.loop-m-init
-loop-m-init c = put_none (marks_of c.args.marks.now) (marks_of c.args.lower.now) (marks_of c.args.upper.now) c.args.out.now
+loop-m-init c = put_none (marks_of c.args.marks.now) (marks_of c.args.reading.now.lower) (marks_of c.args.reading.now.upper) c.args.out.now
 
 pub loop-m-preserved : goal.loop-m-preserved
 loop-m-preserved c =
     let within = c.in-Some.ensures.within in
-    put_more (marks_of c.args.marks.now) (marks_of c.args.lower.now) (marks_of c.args.upper.now) c.args.out.now
+    put_more (marks_of c.args.marks.now) (marks_of c.args.reading.now.lower) (marks_of c.args.reading.now.upper) c.args.out.now
     c.loop-m.at c.in-Some.m c.number.result c.loop-m.out c.in-Some.ensures.next (omega (arith, c.requires, c.loop-m.auto.out))
-    (record { answer = c.answer_of.result; says = c.answer_of.ensures; number = c.number.ensures }) c.loop-m.invariant
+    (record { answer = c.answer.result; says = c.answer.ensures; number = c.number.ensures }) c.loop-m.invariant
 
 pub returns : goal.returns
 returns c =
-    put_all (marks_of c.args.marks.now) (marks_of c.args.lower.now) (marks_of c.args.upper.now) c.args.out.now
+    put_all (marks_of c.args.marks.now) (marks_of c.args.reading.now.lower) (marks_of c.args.reading.now.upper) c.args.out.now
     c.loop-m.at c.loop-m.out c.in_default.ensures.next c.loop-m.invariant
