@@ -8,7 +8,7 @@ ghost use Rattle.sheet.specs.Steps.{NewSheet, Step, replied};
 ghost use Rattle.sheet.specs.declared.call.Call.TheVariants.{Enter, Strike, Settle, Ask};
 ghost use Rattle.sheet.specs.declared.reply.Reply.TheVariants.{Done, Settled as Found, Told};
 
-use super::facts::{enter_fact, settle_facts, strike_fact};
+use super::facts::settle_facts;
 use super::{Sheet, State};
 use crate::call::Call;
 use crate::reply::{Reply, Settlement};
@@ -42,13 +42,18 @@ impl Sheet {
         ensures { Step (B.TermBook.book book.now) lines.now self.old call result self.new }
     {
         match (call, &self.state) {
+            (Call::Enter(m) | Call::Strike(m) | Call::Ask(m), _) if m >= self.facts.width() => {
+                Err(Refusal::MarkTooHigh)
+            }
+            (Call::Enter(m), _) if self.facts.contains(m) => Err(Refusal::FactStands),
             (Call::Enter(m), _) => {
-                enter_fact(&mut self.facts, m)?;
+                self.facts.insert(m)?;
                 self.state = State::Unsettled;
                 Ok(Reply::Done)
             }
+            (Call::Strike(m), _) if !self.facts.contains(m) => Err(Refusal::NoSuchFact),
             (Call::Strike(m), _) => {
-                strike_fact(&mut self.facts, m)?;
+                self.facts.remove(m)?;
                 self.state = State::Unsettled;
                 Ok(Reply::Done)
             }
@@ -60,7 +65,6 @@ impl Sheet {
                     rounds: judged.settled.rounds,
                 }))
             }
-            (Call::Ask(m), _) if m >= self.facts.width() => Err(Refusal::MarkTooHigh),
             (Call::Ask(_), State::Unsettled) => Err(Refusal::NotSettled),
             (Call::Ask(m), State::Settled(reading)) => Ok(Reply::Told(reading.answer(m))),
         }
