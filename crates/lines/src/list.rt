@@ -12,7 +12,7 @@ use crate::places::{ascend_below, front, has_all, has_none, same};
 use marks::set::MarkSet;
 
 // The first `count` places are used; what stands in the others never matters.
-#[derive(Clone, Copy, Debug)]
+#[derive(Clone, Copy, Debug, Default)]
 pub struct MarkList {
     pub count: u8,
     pub marks: [u16; 8],

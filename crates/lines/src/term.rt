@@ -13,9 +13,10 @@ use crate::list::MarkList;
 use marks::set::MarkSet;
 
 // What a term line says of its conditions.
-#[derive(Clone, Copy, Debug, PartialEq)]
+#[derive(Clone, Copy, Debug, Default, PartialEq)]
 pub enum Kind {
     // where they all hold, the head holds
+    #[default]
     Gives = 1,
     // they never hold all together
     Denies = 2,
@@ -30,7 +31,7 @@ impl Kind {
 }
 
 // At a denial the head is an unused place.
-#[derive(Clone, Copy, Debug)]
+#[derive(Clone, Copy, Debug, Default)]
 pub struct TermLine {
     pub kind: Kind,
     pub head: u16,
