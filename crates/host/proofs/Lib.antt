@@ -1,4 +1,3 @@
-pub mod Writing
 pub mod Loading
 pub mod Outcomes
 pub mod Deciding

@@ -55,10 +55,9 @@ Tested file facts room b (Err Output) = InTables file b × IsFacts b.counts.widt
 
 -- the least reading of the facts, and the verdict on it
 pub record Found (t : Tariff) (facts : MarkSet) (j : Judged) : Type 0 where
-  pub lower : j.settled.lower.width ≡ t.width
-  pub upper : j.settled.upper.width ≡ t.width
-  pub reading : LeastReading (book_of t) (fare_rules t) (marks_of facts) (marks_of j.settled.lower) (marks_of j.settled.upper)
-  pub verdict : (the_verdict j.verdict).says (book_of t) (fare_rules t) (marks_of facts) (marks_of j.settled.lower) (marks_of j.settled.upper)
+  pub width : j.settled.reading.lower.width ≡ t.width
+  pub reading : LeastReading (book_of t) (fare_rules t) (marks_of facts) (marks_of j.settled.reading.lower) (marks_of j.settled.reading.upper)
+  pub verdict : (the_verdict j.verdict).says (book_of t) (fare_rules t) (marks_of facts) (marks_of j.settled.reading.lower) (marks_of j.settled.reading.upper)
 
 -- the first w bytes became 0, and the others stay
 pub record Cleared (w : ℕ) (before after : List ℕ) : Type 0 where

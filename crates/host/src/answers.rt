@@ -1,5 +1,5 @@
 // The answers, written into the output.
-ghost use Rattle.std.specs.Prelude.{◌≡◌, ◌≤◌, length};
+ghost use Rattle.std.specs.Prelude.{◌≤◌, length};
 ghost use Rattle.marks.specs.MarkSets.{marks_of};
 ghost use Rattle.marks.specs.Sets.{◌∈◌};
 ghost use Rattle.host.specs.Host.{AnswersIn};
@@ -7,7 +7,7 @@ ghost use Rattle.host.specs.Steps.{Cleared, Answered};
 
 use marks::set::MarkSet;
 use readings::answer::Answer;
-use sheet::answer::answer_of;
+use readings::reading::Reading;
 
 // Writes "not" for every mark of the width.
 fn clear(out: &mut [u8], width: u16)
@@ -18,24 +18,23 @@ fn clear(out: &mut [u8], width: u16)
 }
 
 // Writes the answer for every mark of the set.
-fn put_answers(out: &mut [u8], marks: &MarkSet, lower: &MarkSet, upper: &MarkSet)
+fn put_answers(out: &mut [u8], marks: &MarkSet, reading: &Reading)
     requires { marks.now.width ≤ length out.old }
-    ensures { Answered (λ m. m ∈ marks_of marks.now) (marks_of lower.now) (marks_of upper.now) out.old out.new }
+    ensures { Answered (λ m. m ∈ marks_of marks.now) (marks_of reading.now.lower) (marks_of reading.now.upper) out.old out.new }
 {
     let mut at = 0;
     while let Some(m) = marks.next(at) {
-        out[m as usize] = answer_of(lower, upper, m).number();
+        out[m as usize] = reading.answer(m).number();
         at = m + 1;
     }
 }
 
 // Writes the answer for every mark: all are "not" but those in T or in U.
-pub(crate) fn write_answers(out: &mut [u8], lower: &MarkSet, upper: &MarkSet)
-    requires room { lower.now.width ≤ length out.old }
-    requires widths { upper.now.width ≡ lower.now.width }
-    ensures { AnswersIn lower.now.width (marks_of lower.now) (marks_of upper.now) out.old out.new }
+pub(crate) fn write_answers(out: &mut [u8], reading: &Reading)
+    requires { reading.now.lower.width ≤ length out.old }
+    ensures { AnswersIn reading.now.lower.width (marks_of reading.now.lower) (marks_of reading.now.upper) out.old out.new }
 {
-    clear(out, lower.width());
-    put_answers(out, lower, lower, upper);
-    put_answers(out, upper, lower, upper);
+    clear(out, reading.lower.width());
+    put_answers(out, &reading.lower, reading);
+    put_answers(out, &reading.upper, reading);
 }

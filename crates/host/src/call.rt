@@ -14,10 +14,10 @@ use readings::verdict::Verdict;
 fn settle_bytes(file: &[u8], facts: &[u8], out: &mut [u8]) -> Result<Verdict, Refused>
     ensures { HostAnswer file.now facts.now out.old out.new (answer_number result) }
 {
-    let mut tables = Tables::blank();
+    let mut tables = Tables::default();
     let set = read_inputs(file, facts, out.len(), &mut tables)?;
     let judged = settle_facts(&tables, &set);
-    write_answers(out, &judged.settled.lower, &judged.settled.upper);
+    write_answers(out, &judged.settled.reading);
     Ok(judged.verdict)
 }
 

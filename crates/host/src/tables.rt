@@ -2,8 +2,7 @@
 ghost use Rattle.host.specs.Steps.{Loaded};
 
 use lines::fare::FareLine;
-use lines::list::MarkList;
-use lines::term::{Kind, TermLine};
+use lines::term::TermLine;
 use tariff_format::counts::Counts;
 use tariff_format::fault::FileFault;
 use tariff_reader::read::read_tariff;
@@ -16,44 +15,27 @@ pub(crate) struct Tables {
     pub(crate) terms: [TermLine; 512],
 }
 
-impl Tables {
+impl Default for Tables {
     // Tables that nothing was read into yet.
-    pub(crate) fn blank() -> Tables {
-        let none = MarkList {
-            count: 0,
-            marks: [0; 8],
-        };
-        let fare = FareLine {
-            head: 0,
-            conditions: none,
-            unless: none,
-        };
-        let term = TermLine {
-            kind: Kind::Gives,
-            head: 0,
-            conditions: none,
-        };
+    fn default() -> Tables {
         Tables {
             counts: Counts {
                 width: 0,
                 fares: 0,
                 terms: 0,
             },
-            fares: [fare; 1024],
-            terms: [term; 512],
+            fares: [FareLine::default(); 1024],
+            terms: [TermLine::default(); 512],
         }
     }
+}
 
+impl Tables {
     // Reads the file into the first records.
     pub(crate) fn load(&mut self, file: &[u8]) -> Result<(), FileFault>
         ensures { Loaded file.now self.new result }
     {
-        match read_tariff(file, &mut self.fares, &mut self.terms) {
-            Ok(counts) => {
-                self.counts = counts;
-                Ok(())
-            }
-            Err(fault) => Err(fault),
-        }
+        self.counts = read_tariff(file, &mut self.fares, &mut self.terms)?;
+        Ok(())
     }
 }

@@ -32,10 +32,7 @@ pub(crate) fn read_inputs(
 {
     tables.load(file)?;
     let width = tables.counts.width;
-    let set = match facts_of(width, facts) {
-        Ok(set) => set,
-        Err(fault) => return Err(Refused::Facts(fault)),
-    };
+    let set = facts_of(width, facts)?;
     if room < width as usize {
         return Err(Refused::Output);
     }

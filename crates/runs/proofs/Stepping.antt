@@ -50,7 +50,7 @@ module _ (B : Book) (lines : List FareLine) where
   -- a state fits the history where it is settled exactly when the history is, and then with the least reading of the facts
   abbrev StateFits : History → Marks → State → Type 0
   StateFits h F Unsettled = IsSettled h → ⊥
-  StateFits h F (Settled T U) = IsSettled h × LeastReading B (rules_of lines) F (marks_of T) (marks_of U) × Fit B (rules_of lines) F
+  StateFits h F (Settled R) = IsSettled h × LeastReading B (rules_of lines) F (marks_of R.lower) (marks_of R.upper) × Fit B (rules_of lines) F
 
   record Fits (h : History) (s : Sheet) : Type 0 where
     facts : Standing h (marks_of s.facts)
@@ -58,20 +58,20 @@ module _ (B : Book) (lines : List FareLine) where
 
   unsettled_so : (h : History) (F : Marks) (st : State) → StateFits h F st → (the_state st).unsettled → IsSettled h → ⊥
   unsettled_so h F Unsettled f x = f
-  unsettled_so h F (Settled T U) f x = absurd x
+  unsettled_so h F (Settled R) f x = absurd x
 
   so_unsettled : (h : History) (F : Marks) (st : State) → StateFits h F st → (IsSettled h → ⊥) → (the_state st).unsettled
   so_unsettled h F Unsettled f x = tt
-  so_unsettled h F (Settled T U) f x = x f.0
+  so_unsettled h F (Settled R) f x = x f.0
 
   unsettled_fits : (h : History) (F : Marks) (st : State) → (the_state st).unsettled → (IsSettled h → ⊥) → StateFits h F st
   unsettled_fits h F Unsettled x f = f
-  unsettled_fits h F (Settled T U) x f = absurd x
+  unsettled_fits h F (Settled R) x f = absurd x
 
   -- an event that alters nothing leaves the state
   state_kept : (h : History) (F : Marks) (e : Event) → (Alters e → ⊥) → (st : State) → StateFits h F st → StateFits (e ∷ h) F st
   state_kept h F e none Unsettled f = λ l. f (past_it _ _ none l)
-  state_kept h F e none (Settled T U) f = (earlier none f.0, f.1, f.2)
+  state_kept h F e none (Settled R) f = (earlier none f.0, f.1, f.2)
 
   new_fits : (w : ℕ) (s : Sheet) → NewSheet w s → Fits [] s
   new_fits w s n =
@@ -147,17 +147,17 @@ module _ (B : Book) (lines : List FareLine) where
         → SettleRight B lines h k v n × StateFits (event (Settle k) (Ok y) ∷ h) (marks_of s.facts) st
     unfolding Found
     found k fit v n y Unsettled p = absurd p
-    found k fit v n y (Settled T U) p = (
+    found k fit v n y (Settled R) p = (
       record {
         facts = marks_of s.facts;
         standing = f.facts;
-        T = marks_of T;
-        U = marks_of U;
+        T = marks_of R.lower;
+        U = marks_of R.upper;
         reading = p.reading;
         verdict = p.verdict;
         rounds = p.rounds;
         either = λ other. stop fit k other p.rounds;
-        broken = λ e M sound. broken_unsound fit p.reading (broken_says v B (rules_of lines) (marks_of s.facts) (marks_of T) (marks_of U) e p.verdict) sound;
+        broken = λ e M sound. broken_unsound fit p.reading (broken_says v B (rules_of lines) (marks_of s.facts) (marks_of R.lower) (marks_of R.upper) e p.verdict) sound;
       },
       (latest (tt, inr (k, refl)) (k, refl), p.reading, fit),
     )
@@ -184,16 +184,16 @@ module _ (B : Book) (lines : List FareLine) where
     -- an accepted ask
     told : (m : ℕ) (a : Answer) (st : State) → StateFits h (marks_of s.facts) st → (the_state st).settled (λ T U. (the_answer a).says T U m) → AskRight B lines h m a
     told m a Unsettled g p = absurd p
-    told m a (Settled T U) g p =
+    told m a (Settled R) g p =
         record {
           facts = marks_of s.facts;
           standing = f.facts;
-          T = marks_of T;
-          U = marks_of U;
+          T = marks_of R.lower;
+          U = marks_of R.upper;
           reading = g.1;
           says = p;
-          holds = λ e M sound. (sound_between g.2 g.1 sound).0 m (holds_says a (marks_of T) (marks_of U) m e p);
-          not = λ e M sound t. not_says a (marks_of T) (marks_of U) m e p ((sound_between g.2 g.1 sound).1 m t);
+          holds = λ e M sound. (sound_between g.2 g.1 sound).0 m (holds_says a (marks_of R.lower) (marks_of R.upper) m e p);
+          not = λ e M sound t. not_says a (marks_of R.lower) (marks_of R.upper) m e p ((sound_between g.2 g.1 sound).1 m t);
         }
 
     tells : (m : ℕ) (y : Reply) → (the_reply y).told (Tells s m) → (the_reply y).told (AskRight B lines h m)

@@ -1,41 +1,34 @@
 -- How many marks have an answer: there is one such number.
-use Rattle.std.proofs.Common.{◌≡◌, ℕ, Bool, true, false, not, ◌&&◌, ◌||◌, T, ◌↔◌, sym, refl, ◌∙◌}
-use Rattle.marks.specs.Sets.{Marks, ◌∈◌, size}
+use Rattle.std.proofs.Common.{◌≡◌, ℕ, true, ◌↔◌, sym, refl, ◌∙◌}
+use Rattle.marks.specs.Sets.{Marks, ◌∈◌, ◌∩◌, ◌∖◌, size}
 use Rattle.marks.proofs.Sets.{same_test}
 use Rattle.marks.proofs.Sizes.{size_same}
 use Rattle.readings.specs.Says.{the_answer}
 use Rattle.readings.specs.declared.answer.Answer.{Answer}
 use Rattle.readings.specs.declared.answer.Answer.TheVariants.{Not, Holds, Open, Both}
+use Rattle.readings.proofs.Sets.{both, meet_left, meet_right, less_in, less_left, less_out}
 use Rattle.sheet.specs.Looks.{HowMany}
 use Rattle.sheet.specs.Theorems.{CountsDecide}
 
+every_mark : Marks
+every_mark m = true
+
 -- the marks that have the answer
 answering : Answer → (X U : Marks) → Marks
-answering Not X U m = not (X m || U m)
-answering Holds X U m = X m && U m
-answering Open X U m = U m && not (X m)
-answering Both X U m = X m && not (U m)
-
-neither : (a b : Bool) → T (not (a || b)) ↔ ((T a → ⊥) × (T b → ⊥))
-neither true b = ((λ t. absurd t), (λ p. p.0 tt))
-neither false true = ((λ t. absurd t), (λ p. p.1 tt))
-neither false false = ((λ t. ((λ x. x), (λ x. x))), (λ p. tt))
-
-both : (a b : Bool) → T (a && b) ↔ (T a × T b)
-both true b = ((λ t. (tt, t)), (λ p. p.1))
-both false b = ((λ t. absurd t), (λ p. p.0))
-
-less : (a b : Bool) → T (a && not b) ↔ (T a × (T b → ⊥))
-less true true = ((λ t. absurd t), (λ p. p.1 tt))
-less true false = ((λ t. (tt, (λ x. x))), (λ p. tt))
-less false b = ((λ t. absurd t), (λ p. p.0))
+answering Not X U = every_mark ∖ X ∖ U
+answering Holds X U = X ∩ U
+answering Open X U = U ∖ X
+answering Both X U = X ∖ U
 
 answering_says : (a : Answer) (X U : Marks) (m : ℕ) → m ∈ answering a X U ↔ (the_answer a).says X U m
-unfolding answering
-answering_says Not X U m = neither (X m) (U m)
-answering_says Holds X U m = both (X m) (U m)
-answering_says Open X U m = let l = less (U m) (X m) in ((λ t. let p = l.0 t in (p.1, p.0)), (λ p. l.1 (p.1, p.0)))
-answering_says Both X U m = less (X m) (U m)
+unfolding answering every_mark
+answering_says Not X U m = (
+  (λ t. (less_out every_mark X m (less_left (every_mark ∖ X) U m t), less_out (every_mark ∖ X) U m t)),
+  (λ p. less_in (every_mark ∖ X) U m (less_in every_mark X m tt p.0) p.1),
+)
+answering_says Holds X U m = ((λ t. (meet_left X U m t, meet_right X U m t)), (λ p. both (X m) (U m) p.0 p.1))
+answering_says Open X U m = ((λ t. (less_out U X m t, less_left U X m t)), (λ p. less_in U X m p.1 p.0))
+answering_says Both X U m = ((λ t. (less_left X U m t, less_out X U m t)), (λ p. less_in X U m p.0 p.1))
 
 one_number : (w : ℕ) (X U : Marks) (a : Answer) (n n' : ℕ) → HowMany w X U a n → HowMany w X U a n' → n ≡ n'
 one_number w X U a n n' p q =

@@ -36,11 +36,11 @@ the_reply Done = record { done = Unit {0}; settled = λ says. ⊥; told = λ say
 the_reply (Found s) = record { done = ⊥; settled = λ says. says s.verdict s.rounds; told = λ says. ⊥ }
 the_reply (Told a) = record { done = ⊥; settled = λ says. ⊥; told = λ says. says a }
 
--- A sheet is unsettled, or settled with two sets.
+-- A sheet is unsettled, or settled with a reading.
 pub record StateCase : Type 1 where
   pub unsettled : Type 0
   pub settled : (says : (T U : Marks) → Type 0) → Type 0
 
 abbrev pub the_state : State → StateCase
 the_state Unsettled = record { unsettled = Unit {0}; settled = λ says. ⊥ }
-the_state (Settled T U) = record { unsettled = ⊥; settled = λ says. says (marks_of T) (marks_of U) }
+the_state (Settled R) = record { unsettled = ⊥; settled = λ says. says (marks_of R.lower) (marks_of R.upper) }

@@ -58,11 +58,10 @@ module _ (B : Book) (lines : List FareLine) where
   unfoldable pub Found : (facts : Marks) (method : Method) (v : Verdict) (n : ℕ) (T U : Marks) → Type 0
   Found = Finding
 
-  -- what settling a set of facts gives: two sets of its width, and what was found
+  -- what settling a set of facts gives: a reading of its width, and what was found
   pub record Outcome (facts : MarkSet) (method : Method) (j : Judged) : Type 0 where
-    pub lower : j.settled.lower.width ≡ facts.width
-    pub upper : j.settled.upper.width ≡ facts.width
-    pub found : Found (marks_of facts) method j.verdict j.settled.rounds (marks_of j.settled.lower) (marks_of j.settled.upper)
+    pub width : j.settled.reading.lower.width ≡ facts.width
+    pub found : Found (marks_of facts) method j.verdict j.settled.rounds (marks_of j.settled.reading.lower) (marks_of j.settled.reading.upper)
 
   -- the sheet keeps its facts and is settled with their least reading
   pub record SettledBy (before after : Sheet) (method : Method) (v : Verdict) (n : ℕ) : Type 0 where

@@ -1,7 +1,7 @@
 // The calls on a sheet whose lines and book are settled on beforehand.
 use readings::method::Method;
 
-#[derive(Clone, Copy)]
+#[derive(Clone, Copy, Debug, PartialEq, Eq)]
 pub enum Call {
     // makes the mark stand as a fact
     Enter(u16),

@@ -1,7 +1,6 @@
 // The sheet: the record of one trip, its calls, and what each of them does.
 #![tactic(auto)]
 
-pub mod answer;
 pub mod call;
 pub mod reply;
 pub mod sheet;

@@ -3,13 +3,13 @@ use readings::answer::Answer;
 use readings::verdict::Verdict;
 
 // What settling answers: the verdict, and how many rounds the method made.
-#[derive(Clone, Copy)]
+#[derive(Clone, Copy, Debug, PartialEq, Eq)]
 pub struct Settlement {
     pub verdict: Verdict,
     pub rounds: u16,
 }
 
-#[derive(Clone, Copy)]
+#[derive(Clone, Copy, Debug, PartialEq, Eq)]
 pub enum Reply {
     // an enter or a strike was done
     Done,
@@ -20,7 +20,7 @@ pub enum Reply {
 }
 
 // How many marks of a settled sheet hold, are not, are open and are both.
-#[derive(Clone, Copy)]
+#[derive(Clone, Copy, Debug, PartialEq, Eq)]
 pub struct Counts {
     pub holds: u16,
     pub not: u16,

@@ -3,16 +3,17 @@ ghost use Rattle.std.specs.Prelude.{◌≡◌, true};
 ghost use Rattle.sheet.specs.Widths.{one_width};
 
 use marks::set::MarkSet;
+use readings::reading::Reading;
 
 mod calls;
 mod facts;
 mod looks;
 
-// Whether the facts, as they now stand, have been settled, and with which sets.
+// Whether the facts, as they now stand, have been settled, and with which reading.
 #[derive(Clone, Copy)]
 pub enum State {
     Unsettled,
-    Settled { lower: MarkSet, upper: MarkSet },
+    Settled(Reading),
 }
 
 // The sets of a sheet have one width, which is the sheet's.

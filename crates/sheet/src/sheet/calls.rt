@@ -8,9 +8,8 @@ ghost use Rattle.sheet.specs.Steps.{NewSheet, Step, replied};
 ghost use Rattle.sheet.specs.declared.call.Call.TheVariants.{Enter, Strike, Settle, Ask};
 ghost use Rattle.sheet.specs.declared.reply.Reply.TheVariants.{Done, Settled as Found, Told};
 
-use super::facts::{enter_fact, settle_facts, strike_fact};
+use super::facts::settle_facts;
 use super::{Sheet, State};
-use crate::answer::answer_of;
 use crate::call::Call;
 use crate::reply::{Reply, Settlement};
 use books::bare::BareBook;
@@ -43,32 +42,31 @@ impl Sheet {
         ensures { Step (B.TermBook.book book.now) lines.now self.old call result self.new }
     {
         match (call, &self.state) {
+            (Call::Enter(m) | Call::Strike(m) | Call::Ask(m), _) if m >= self.facts.width() => {
+                Err(Refusal::MarkTooHigh)
+            }
+            (Call::Enter(m), _) if self.facts.contains(m) => Err(Refusal::FactStands),
             (Call::Enter(m), _) => {
-                enter_fact(&mut self.facts, m)?;
+                self.facts.insert(m)?;
                 self.state = State::Unsettled;
                 Ok(Reply::Done)
             }
+            (Call::Strike(m), _) if !self.facts.contains(m) => Err(Refusal::NoSuchFact),
             (Call::Strike(m), _) => {
-                strike_fact(&mut self.facts, m)?;
+                self.facts.remove(m)?;
                 self.state = State::Unsettled;
                 Ok(Reply::Done)
             }
             (Call::Settle(method), _) => {
                 let judged = settle_facts(&self.facts, lines, book, method)?;
-                self.state = State::Settled {
-                    lower: judged.settled.lower,
-                    upper: judged.settled.upper,
-                };
+                self.state = State::Settled(judged.settled.reading);
                 Ok(Reply::Settled(Settlement {
                     verdict: judged.verdict,
                     rounds: judged.settled.rounds,
                 }))
             }
-            (Call::Ask(m), _) if m >= self.facts.width() => Err(Refusal::MarkTooHigh),
             (Call::Ask(_), State::Unsettled) => Err(Refusal::NotSettled),
-            (Call::Ask(m), State::Settled { lower, upper }) => {
-                Ok(Reply::Told(answer_of(lower, upper, m)))
-            }
+            (Call::Ask(m), State::Settled(reading)) => Ok(Reply::Told(reading.answer(m))),
         }
     }
 

@@ -14,14 +14,14 @@ use books::book::TermBook;
 use lines::fare::FareLine;
 use marks::refusal::Refusal;
 use marks::set::MarkSet;
+use readings::reading::Reading;
 use settling::sound::is_sound;
 
 // The shares of the marks under their answers' names.
-fn counts_of(lower: &MarkSet, upper: &MarkSet) -> Result<Counts, Refusal>
-    requires { lower.now.width ≡ upper.now.width }
-    ensures { Gives result (λ c. Counted lower.now.width c (marks_of lower.now) (marks_of upper.now)) }
+fn counts_of(reading: &Reading) -> Result<Counts, Refusal>
+    ensures { Gives result (λ c. Counted reading.now.lower.width c (marks_of reading.now.lower) (marks_of reading.now.upper)) }
 {
-    let shares = lower.overlap(upper)?;
+    let shares = reading.lower.overlap(&reading.upper)?;
     Ok(Counts {
         holds: shares.both,
         not: shares.neither,
@@ -31,19 +31,12 @@ fn counts_of(lower: &MarkSet, upper: &MarkSet) -> Result<Counts, Refusal>
 }
 
 // Two readings give the same answers exactly where both sets are the same.
-fn same_answers(
-    lower: &MarkSet,
-    upper: &MarkSet,
-    other_lower: &MarkSet,
-    other_upper: &MarkSet,
-) -> Result<bool, Refusal>
-    requires upper { upper.now.width ≡ lower.now.width }
-    requires other { other_lower.now.width ≡ lower.now.width }
-    requires others { other_upper.now.width ≡ lower.now.width }
-    ensures { Gives result (λ b. Decides b (SameAnswers (marks_of lower.now) (marks_of upper.now) (marks_of other_lower.now) (marks_of other_upper.now))) }
+fn same_answers(one: &Reading, other: &Reading) -> Result<bool, Refusal>
+    requires { other.now.lower.width ≡ one.now.lower.width }
+    ensures { Gives result (λ b. Decides b (SameAnswers (marks_of one.now.lower) (marks_of one.now.upper) (marks_of other.now.lower) (marks_of other.now.upper))) }
 {
-    let lower_same = lower.same_marks(other_lower)?;
-    let upper_same = upper.same_marks(other_upper)?;
+    let lower_same = one.lower.same_marks(&other.lower)?;
+    let upper_same = one.upper.same_marks(&other.upper)?;
     Ok(lower_same && upper_same)
 }
 
@@ -54,7 +47,7 @@ impl Sheet {
     {
         match &self.state {
             State::Unsettled => Err(Refusal::NotSettled),
-            State::Settled { lower, upper } => counts_of(lower, upper),
+            State::Settled(reading) => counts_of(reading),
         }
     }
 
@@ -78,13 +71,7 @@ impl Sheet {
             return Err(Refusal::Width);
         }
         match (&self.state, &other.state) {
-            (
-                State::Settled { lower, upper },
-                State::Settled {
-                    lower: other_lower,
-                    upper: other_upper,
-                },
-            ) => same_answers(lower, upper, other_lower, other_upper),
+            (State::Settled(one), State::Settled(two)) => same_answers(one, two),
             _ => Err(Refusal::NotSettled),
         }
     }

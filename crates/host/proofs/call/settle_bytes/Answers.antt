@@ -17,14 +17,14 @@ returns c =
     let inputs = c.in_ok-set.ensures in
     let judged = c.settle_facts-judged.result in
     let found = c.settle_facts-judged.ensures in
-    let T : Marks = marks_of judged.settled.lower in
-    let U : Marks = marks_of judged.settled.upper in
+    let T : Marks = marks_of judged.settled.reading.lower in
+    let U : Marks = marks_of judged.settled.reading.upper in
     settled (tariff_in c.read_inputs.new.tables) (marks_of c.in_ok-set.set) inputs.0.file inputs.2 inputs.3
     (record {
       lower = T;
       upper = U;
       reading = found.reading;
-      answers = subst (λ w. AnswersIn w T U c.args.out.now c.write_answers.new.out) found.lower c.write_answers.ensures;
+      answers = subst (λ w. AnswersIn w T U c.args.out.now c.write_answers.new.out) found.width c.write_answers.ensures;
       verdict = judged.verdict;
       says = found.verdict;
       number = refl;

@@ -13,8 +13,7 @@ returns g c =
     (λ j p.
     let width = stable_equal _ _ alike in
     record {
-      lower = p.settled.lower ∙ sym width;
-      upper = p.settled.upper ∙ sym width;
+      width = p.settled.lower ∙ sym width;
       found = record { reading = p.settled.reading; rounds = p.settled.rounds; verdict = p.verdict };
     })))
     c.settle.ensures

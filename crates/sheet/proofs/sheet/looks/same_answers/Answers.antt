@@ -6,10 +6,10 @@ use Rattle.sheet.proofs.sheet.looks.same_answers.Goals as goal
 
 pub returns-then-lower_same : goal.returns-then-lower_same
 returns-then-lower_same c =
-    let T = marks_of c.args.lower.now in
-    let U = marks_of c.args.upper.now in
-    let T' = marks_of c.args.other_lower.now in
-    let U' = marks_of c.args.other_upper.now in
+    let T = marks_of c.args.one.now.lower in
+    let U = marks_of c.args.one.now.upper in
+    let T' = marks_of c.args.other.now.lower in
+    let U' = marks_of c.args.other.now.upper in
     let lower = given c.in_ok-lower_same.ensures in
     let upper = given c.in_ok-upper_same.ensures in (
       (λ e. same_all T U T' U' (lower.0 c.if-lower_same.true) (upper.0 e)),
