@@ -1,3 +1,4 @@
 pub mod Pieces
 pub mod Turns
 pub mod Limits
+pub mod Lawfuls
