@@ -28,13 +28,16 @@ pub(crate) fn put_number(out: &mut [u8], place: usize, n: u16) -> usize
         out[place] = n as u8;
         place + 1
     } else if n < 16384 {
-        out[place] = (n % 128) as u8 + 128;
-        out[place + 1] = (n / 128) as u8;
+        let bytes = [(n % 128) as u8 + 128, (n / 128) as u8];
+        out[place..place + 2].copy_from_slice(&bytes);
         place + 2
     } else {
-        out[place] = (n % 128) as u8 + 128;
-        out[place + 1] = (n / 128 % 128) as u8 + 128;
-        out[place + 2] = (n / 16384) as u8;
+        let bytes = [
+            (n % 128) as u8 + 128,
+            (n / 128 % 128) as u8 + 128,
+            (n / 16384) as u8,
+        ];
+        out[place..place + 3].copy_from_slice(&bytes);
         place + 3
     }
 }
