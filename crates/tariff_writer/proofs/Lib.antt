@@ -1,4 +1,3 @@
 pub mod Pieces
 pub mod Turns
 pub mod Limits
-pub mod Lawfuls

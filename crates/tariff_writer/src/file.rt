@@ -1,7 +1,6 @@
 // A tariff written as a file.
 ghost use Rattle.tariff_writer.specs.Calls.{tariff_of, Sizes, WritesFile};
 
-use crate::encode::Encode;
 use crate::lent::Tariff;
 use lines::fare::FareLine;
 use lines::term::TermLine;
@@ -12,7 +11,7 @@ pub fn tariff_size(width: u16, fares: &[FareLine], terms: &[TermLine]) -> Result
     ensures { Sizes (tariff_of width fares.now terms.now) result }
 {
     let tariff = Tariff::new(width, fares, terms)?;
-    Ok(tariff.size())
+    Ok(tariff.file_size())
 }
 
 // Writes the tariff's file at the start of the bytes and answers its length; the bytes behind it stay. Refused: no byte is
@@ -26,8 +25,8 @@ pub fn write_tariff(
     ensures { WritesFile (tariff_of width fares.now terms.now) out.old out.new result }
 {
     let tariff = Tariff::new(width, fares, terms)?;
-    if out.len() < tariff.size() {
+    if out.len() < tariff.file_size() {
         return Err(Refusal::OutputShort);
     }
-    Ok(tariff.put(out, 0))
+    Ok(tariff.put_file(out))
 }

@@ -1,15 +1,16 @@
 // A tariff where the caller has it.
-ghost use Rattle.std.specs.Prelude.{◌≤◌, length};
+ghost use Rattle.tariff_format.specs.Encoding.{LawfulTariff};
+ghost use Rattle.tariff_writer.specs.Calls.{tariff_of};
+ghost use Rattle.tariff_writer.specs.Props.{lawful-prop};
 
 use lines::fare::FareLine;
 use lines::term::TermLine;
 
-// A width and the caller's lines, no more of them than a file may have.
+// A lawful tariff: its width and the caller's lines.
 #[derive(Drop)]
 pub(crate) struct Tariff<'a> {
     pub(crate) width: u16,
     pub(crate) fares: &'a [FareLine],
     pub(crate) terms: &'a [TermLine],
-    ghost fares_fit: { length fares.now ≤ 1024 },
-    ghost terms_fit: { length terms.now ≤ 512 },
+    ghost lawful: { LawfulTariff (tariff_of width fares.now terms.now) } by { lawful-prop (tariff_of width fares.now terms.now) },
 }

@@ -1,8 +1,8 @@
 // A tariff in a file: its three numbers, then its lines.
 ghost use Rattle.std.specs.Prelude.{◌≡◌, ◌≤◌, length};
-ghost use Rattle.tariff_format.specs.Encoding.{LawfulTariff, file_bytes};
-ghost use Rattle.tariff_format.specs.Tariffs.{WholeTariff};
-ghost use Rattle.tariff_writer.specs.Calls.{tariff_of, Checks};
+ghost use Rattle.tariff_format.specs.Encoding.{file_bytes};
+ghost use Rattle.tariff_format.specs.Laws.{Proper};
+ghost use Rattle.tariff_writer.specs.Calls.{tariff_of, Checks, Sized, Filed};
 ghost use Rattle.tariff_writer.specs.Lent.{the_tariff};
 
 use crate::encode::Encode;
@@ -33,7 +33,7 @@ impl<'a> Tariff<'a> {
         fares: &'a [FareLine],
         terms: &'a [TermLine],
     ) -> Result<Tariff<'a>, Refusal>
-        ensures { Checks (tariff_of width fares.now terms.now) result (λ t. LawfulTariff (the_tariff t) × (the_tariff t ≡ tariff_of width fares.now terms.now)) }
+        ensures { Checks (tariff_of width fares.now terms.now) result (λ t. the_tariff t ≡ tariff_of width fares.now terms.now) }
     {
         check_width(width)?;
         check_records(fares, MOST_FARES, width)?;
@@ -57,12 +57,27 @@ impl<'a> Tariff<'a> {
         let term_count = count_of(self.terms);
         (self.width, (count_of(self.fares), (term_count, lines)))
     }
+
+    // The length of its file.
+    pub(crate) fn file_size(&self) -> usize
+        ensures { Sized (the_tariff self.now) result }
+    {
+        self.size()
+    }
+
+    // Writes its file where it has room, and answers its length.
+    pub(crate) fn put_file(&self, out: &mut [u8]) -> usize
+        requires { length (file_bytes (the_tariff self.now)) ≤ length out.old }
+        ensures { Filed (the_tariff self.now) out.old out.new result }
+    {
+        self.put(out, 0)
+    }
 }
 
 impl Encode for Tariff<'_> {
     ghost bytes = { λ t. file_bytes (the_tariff t) };
 
-    ghost whole = { λ t. WholeTariff (the_tariff t) };
+    ghost whole = { λ t. Proper (the_tariff t) };
 
     fn size(&self) -> usize {
         self.parts().size()
