@@ -26,46 +26,39 @@ fn front(bytes: &[u8]) -> Result<(u16, usize), Refusal>
     }
 }
 
-// The number at the front of what is left from `byte` on, with all its tests, and the place behind it.
-fn judged(
-    rest: &[u8],
-    byte: usize,
+// What a number must lie between, and what it must not lie below.
+#[derive(Clone, Copy)]
+struct Limits {
     low: u16,
     high: u16,
     least: u16,
-) -> Result<(u16, usize), NumberFault>
-    requires { byte + length rest.now < 2 ^ 64 }
-    ensures value { result ≡ tested low high least byte (decode rest.now) }
-    ensures within { IfOk result (λ x. x.1 ≤ byte + length rest.now) }
-{
-    match front(rest) {
-        Err(refusal) => Err(NumberFault { refusal, byte }),
-        Ok((n, _)) if n < low || n > high => Err(NumberFault {
-            refusal: Refusal::OutsideLimit,
-            byte,
-        }),
-        Ok((n, _)) if n < least => Err(NumberFault {
-            refusal: Refusal::NotAscending,
-            byte,
-        }),
-        Ok((n, taken)) => Ok((n, byte + taken)),
-    }
 }
 
-// The number at a place, which must lie from `low` to `high` and not below `least`, and the place behind it.
-fn number_at(
-    bytes: &[u8],
-    place: usize,
-    low: u16,
-    high: u16,
-    least: u16,
-) -> Result<(u16, usize), NumberFault>
-    requires { place ≤ length bytes.now }
-    ensures value { result ≡ number_at low high least bytes.now place }
-    ensures within { IfOk result (λ x. x.1 ≤ length bytes.now) }
-    ensures says { NumberAnswer low high least bytes.now place result }
+// The number at the front of what is left from `byte` on, with all its tests, and the place behind it.
+fn judged(rest: &[u8], byte: usize, limits: Limits) -> Result<(u16, usize), NumberFault>
+    requires { byte + length rest.now < 2 ^ 64 }
+    ensures value { result ≡ tested limits.low limits.high limits.least byte (decode rest.now) }
+    ensures within { IfOk result (λ x. x.1 ≤ byte + length rest.now) }
 {
-    judged(&bytes[place..], place, low, high, least)
+    let fault = |refusal| NumberFault { refusal, byte };
+    let (n, taken) = front(rest).map_err(fault)?;
+    if n < limits.low || n > limits.high {
+        return Err(fault(Refusal::OutsideLimit));
+    }
+    if n < limits.least {
+        return Err(fault(Refusal::NotAscending));
+    }
+    Ok((n, byte + taken))
+}
+
+// The number at a place, with all its tests, and the place behind it.
+fn number_at(bytes: &[u8], place: usize, limits: Limits) -> Result<(u16, usize), NumberFault>
+    requires { place ≤ length bytes.now }
+    ensures value { result ≡ number_at limits.low limits.high limits.least bytes.now place }
+    ensures within { IfOk result (λ x. x.1 ≤ length bytes.now) }
+    ensures says { NumberAnswer limits.low limits.high limits.least bytes.now place result }
+{
+    judged(&bytes[place..], place, limits)
 }
 
 impl Reader<'_> {
@@ -87,7 +80,8 @@ impl Reader<'_> {
         ensures stays { Stays result self.old.place self.new.place }
         ensures says { NumberAnswer low high least (text self.old) self.old.place (placed result self.new.place) }
     {
-        let (n, next) = number_at(self.bytes, self.place, low, high, least)?;
+        let limits = Limits { low, high, least };
+        let (n, next) = number_at(self.bytes, self.place, limits)?;
         self.place = next;
         Ok(n)
     }

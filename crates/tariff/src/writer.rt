@@ -19,23 +19,35 @@ pub fn number_size(n: u16) -> usize
     }
 }
 
+// Writes bytes at a place where they have room, and answers the place behind them.
+fn put_bytes(out: &mut [u8], place: usize, bytes: &[u8]) -> usize
+    requires { place + length bytes.now ≤ length out.old }
+    ensures { Written out.old place bytes.now out.new result }
+{
+    let end = place + bytes.len();
+    out[place..end].copy_from_slice(bytes);
+    end
+}
+
 // Writes `n` at a place where it has room, and answers the place behind it.
 pub(crate) fn put_number(out: &mut [u8], place: usize, n: u16) -> usize
     requires { place + length (encode n) ≤ length out.old }
     ensures { Written out.old place (encode n) out.new result }
 {
     if n < 128 {
-        out[place] = n as u8;
-        place + 1
+        put_bytes(out, place, &[n as u8])
     } else if n < 16384 {
-        out[place] = (n % 128) as u8 + 128;
-        out[place + 1] = (n / 128) as u8;
-        place + 2
+        put_bytes(out, place, &[(n % 128) as u8 + 128, (n / 128) as u8])
     } else {
-        out[place] = (n % 128) as u8 + 128;
-        out[place + 1] = (n / 128 % 128) as u8 + 128;
-        out[place + 2] = (n / 16384) as u8;
-        place + 3
+        put_bytes(
+            out,
+            place,
+            &[
+                (n % 128) as u8 + 128,
+                (n / 128 % 128) as u8 + 128,
+                (n / 16384) as u8,
+            ],
+        )
     }
 }
 

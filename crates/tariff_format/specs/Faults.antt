@@ -5,7 +5,6 @@ use Rattle.tariff.specs.declared.fault.NumberFault.{NumberFault}
 use Rattle.tariff_format.specs.declared.fault.Section.{Section}
 use Rattle.tariff_format.specs.declared.fault.Section.TheVariants.{Fare, Term}
 use Rattle.tariff_format.specs.declared.fault.LineAt.{LineAt}
-use Rattle.tariff_format.specs.declared.fault.Met.{Met}
 use Rattle.tariff_format.specs.declared.fault.LineFault.{LineFault}
 use Rattle.tariff_format.specs.declared.fault.FileFault.{FileFault}
 use Rattle.tariff_format.specs.declared.fault.FileFault.TheVariants.{Number, Line}
@@ -26,24 +25,20 @@ abbrev pub the_number_fault : NumberFault → FaultCase
 the_number_fault f = record { number = number f.refusal; byte = f.byte; line = None }
 
 abbrev pub the_line_fault : LineFault → FaultCase
-the_line_fault f = record {
-  number = number f.number.refusal;
-  byte = f.number.byte;
-  line = Some (record { section = f.section; index = f.index });
-}
+the_line_fault f = record { number = number f.number.refusal; byte = f.number.byte; line = Some f.at }
 
 abbrev pub the_file_fault : FileFault → FaultCase
 the_file_fault (Number f) = the_number_fault f
 the_file_fault (Line f) = the_line_fault f
 
--- the fault of a line holds that of its number, and adds the line's section and index
+-- the fault of a line holds that of its number, and adds the line: its section and index
 abbrev pub line_fault : LineAt → NumberFault → LineFault
-line_fault at f = record { number = f; section = at.section; index = at.index }
+line_fault at f = record { number = f; at = at }
 
 -- a number's result, which knows its line
-abbrev pub met_at : {A : Type 0} → LineAt → Result A NumberFault → Result A Met
+abbrev pub met_at : {A : Type 0} → LineAt → Result A NumberFault → Result A (NumberFault × LineAt)
 met_at at (Ok x) = Ok x
-met_at at (Err f) = Err (record { number = f; at = at })
+met_at at (Err f) = Err (f, at)
 
 -- what was read in a line, with the line's fault
 abbrev pub in_line : {A : Type 0} → LineAt → Result A NumberFault → Result A LineFault

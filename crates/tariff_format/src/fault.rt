@@ -1,5 +1,6 @@
 // Faults of a tariff file: a number's fault, handed up unchanged from the number to its line and from the line to the file.
 ghost use Rattle.std.specs.Prelude.{◌≡◌};
+ghost use Rattle.marks.specs.Refusals.{number};
 ghost use Rattle.tariff_format.specs.declared.fault.FileFault.TheVariants.{Number, Line};
 ghost use Rattle.tariff_format.specs.Faults.{section_number, the_file_fault, line_fault, met_at};
 
@@ -26,19 +27,11 @@ pub struct LineAt {
     pub index: usize,
 }
 
-// A number's fault, with the line in which it was met.
-#[derive(Clone, Copy, Debug, PartialEq)]
-pub struct Met {
-    pub number: NumberFault,
-    pub at: LineAt,
-}
-
-// A line that is refused: the fault of its number, its section and its index.
+// A line that is refused: the fault of its number, as it was, and the line.
 #[derive(Clone, Copy, Debug, PartialEq)]
 pub struct LineFault {
     pub number: NumberFault,
-    pub section: Section,
-    pub index: usize,
+    pub at: LineAt,
 }
 
 // A file that is refused.
@@ -51,24 +44,28 @@ pub enum FileFault {
 }
 
 impl FileFault {
+    // The fault of the number, in a line or outside.
+    fn cause(self) -> NumberFault
+        ensures number { number result.refusal ≡ (the_file_fault self).number }
+        ensures byte { result.byte ≡ (the_file_fault self).byte }
+    {
+        match self {
+            FileFault::Number(number) | FileFault::Line(LineFault { number, .. }) => number,
+        }
+    }
+
     // The number of the refusal.
     pub fn number(self) -> u8
         ensures { result ≡ (the_file_fault self).number }
     {
-        match self {
-            FileFault::Number(number) | FileFault::Line(LineFault { number, .. }) => {
-                number.refusal.number()
-            }
-        }
+        self.cause().refusal.number()
     }
 
     // The byte where the faulty number starts, or the first one left over.
     pub fn byte(self) -> usize
         ensures { result ≡ (the_file_fault self).byte }
     {
-        match self {
-            FileFault::Number(number) | FileFault::Line(LineFault { number, .. }) => number.byte,
-        }
+        self.cause().byte
     }
 
     // The line in which the fault was met, where it was met in one.
@@ -77,32 +74,25 @@ impl FileFault {
     {
         match self {
             FileFault::Number(_) => None,
-            FileFault::Line(LineFault { section, index, .. }) => Some(LineAt { section, index }),
+            FileFault::Line(line) => Some(line.at),
         }
     }
 }
 
 impl LineAt {
     // Says of a refused number in which line it was met.
-    pub fn met<T>(self, read: Result<T, NumberFault>) -> Result<T, Met>
+    pub fn met<T>(self, read: Result<T, NumberFault>) -> Result<T, (NumberFault, LineAt)>
         ensures { result ≡ met_at self read }
     {
-        match read {
-            Ok(x) => Ok(x),
-            Err(number) => Err(Met { number, at: self }),
-        }
+        read.map_err(|number| (number, self))
     }
 }
 
-impl From<Met> for LineFault {
-    ghost from_gives = { λ m r. r ≡ line_fault m.at m.number };
+impl From<(NumberFault, LineAt)> for LineFault {
+    ghost from_gives = { λ met r. r ≡ line_fault met.1 met.0 };
 
-    fn from(met: Met) -> LineFault {
-        LineFault {
-            number: met.number,
-            section: met.at.section,
-            index: met.at.index,
-        }
+    fn from((number, at): (NumberFault, LineAt)) -> LineFault {
+        LineFault { number, at }
     }
 }
 

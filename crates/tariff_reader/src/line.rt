@@ -48,20 +48,13 @@ fn read_kind(reader: &mut Reader) -> Result<Kind, NumberFault>
     ensures same { text reader.new ≡ text reader.old }
     ensures value { placed result reader.new.place ≡ mapped kind_of (number_at 1 2 0 (text reader.old) reader.old.place) }
 {
-    match reader.rest() {
-        [1, rest @ ..] => {
-            reader.leave(rest.len());
-            Ok(Kind::Gives)
-        }
-        [2, rest @ ..] => {
-            reader.leave(rest.len());
-            Ok(Kind::Denies)
-        }
-        _ => match reader.number(1, 2) {
-            Ok(_) => unreachable(),
-            Err(fault) => Err(fault),
-        },
-    }
+    let (kind, rest) = match reader.rest() {
+        [1, rest @ ..] => (Kind::Gives, rest),
+        [2, rest @ ..] => (Kind::Denies, rest),
+        _ => return Err(reader.number(1, 2).unwrap_err()),
+    };
+    reader.leave(rest.len());
+    Ok(kind)
 }
 
 // A term line is its kind, its head, which a denial has not, and its conditions.

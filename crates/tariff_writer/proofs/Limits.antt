@@ -1,8 +1,11 @@
 -- How many bytes lawful lists, lines and files take at the most, and that a file takes as many.
-use Rattle.std.proofs.Common.{◌≡◌, ℕ, zero, suc, ◌+◌, ◌*◌, ◌<◌, ◌≤◌, List, [], ◌∷◌, length, replicate, IfSome, sym, refl, ◌∙◌, suc-mul, mul-suc, arith, length-append}
+use Rattle.std.proofs.Common.{◌≡◌, ℕ, zero, suc, ◌+◌, ◌*◌, ◌<◌, ◌≤◌, List, length, replicate, IfSome, refl, ap, ◌∙◌, arith, length-append}
 use lib.ListN.{length-replicate}
 use Rattle.std.specs.List.{flat_map, AllByRecursion}
+use Rattle.std.proofs.ByRecursion.{All-weaker, sum_by_le}
 use Rattle.std.proofs.lemmas.List.{length-take}
+use Rattle.std.proofs.lemmas.List.Concat.{length-flat_map}
+use Rattle.std.proofs.lemmas.List.Folds.{sum_by-replicate}
 use Rattle.std.proofs.lemmas.Bool.Decides.{nat_tests}
 use Rattle.lines.specs.declared.fare.FareLine.{FareLine}
 use Rattle.lines.specs.declared.list.MarkList.{MarkList}
@@ -16,7 +19,7 @@ use Rattle.tariff_format.specs.Encoding.{Tariff, LawfulTariff, list_bytes, fare_
 use Rattle.tariff_writer.specs.Theorems.{full_list, full_fare, full_term, largest}
 use Rattle.tariff_format.specs.Laws.{Proper}
 use Rattle.tariff_format.specs.Tariffs.{WholeFare, WholeTerm}
-use Rattle.tariff_writer.proofs.Pieces.{length_three, length_fare, length_term, length_file}
+use Rattle.tariff_writer.proofs.Pieces.{length_fare, length_term, length_file}
 
 short_number : (n : ℕ) → n < 128 → length (encode n) ≡ 1
 short_number n small = grind (arith, nat_tests)
@@ -26,12 +29,8 @@ small_number n small = grind (arith, nat_tests)
 
 -- things of which each takes at most m bytes
 module _ {A : Type 0} (f : A → List ℕ) (P : A → Type 0) (m : ℕ) (each : (x : A) → P x → length (f x) ≤ m) where
-  joined_most : (xs : List A) → AllByRecursion P xs → length (flat_map f xs) ≤ m * length xs
-  joined_most [] all = omega arith
-  joined_most (x ∷ xs) all =
-      let one = each x all.0 in
-      let rest = joined_most xs all.1 in
-      omega (arith, length-append (f x) (flat_map f xs), mul-suc m (length xs))
+  joined_most : (xs : List A) → AllByRecursion P xs → length (flat_map f xs) ≤ length xs * m
+  joined_most xs all = omega (arith, length-flat_map f xs, sum_by_le (λ x. length (f x)) m xs (All-weaker P (λ x. length (f x) ≤ m) each xs all))
 
 -- for a width w up to 512
 module _ (w : ℕ) (few : w ≤ 512) where
@@ -65,7 +64,7 @@ file_most t h =
     let term_count = small_number (length t.terms) (omega (arith, h.terms.few)) in
     let fares = joined_most fare_bytes _ 36 (fare_most t.width h.few) t.fares h.fares.each in
     let terms = joined_most term_bytes _ 20 (term_most t.width h.few) t.terms h.terms.each in
-    omega (arith, h.fares.few, h.terms.few, length_file t.width _ _ t.fares t.terms refl refl, length_three (encode t.width) (encode (length t.fares)) (encode (length t.terms)), length-append (flat_map fare_bytes t.fares) (flat_map term_bytes t.terms))
+    omega (arith, h.fares.few, h.terms.few, length_file t.width t.fares t.terms)
 
 -- the same thing many times
 all_replicate : {A : Type 0} (P : A → Type 0) (n : ℕ) (x : A) → P x → AllByRecursion P (replicate n x)
@@ -73,8 +72,7 @@ all_replicate P zero x h = tt
 all_replicate P (suc n) x h = (h, all_replicate P n x h)
 
 joined_replicate : {A : Type 0} (f : A → List ℕ) (n : ℕ) (x : A) → length (flat_map f (replicate n x)) ≡ n * length (f x)
-joined_replicate f zero x = omega arith
-joined_replicate f (suc n) x = omega (arith, joined_replicate f n x, length-append (f x) (flat_map f (replicate n x)), suc-mul n (length (f x)))
+joined_replicate f n x = length-flat_map f (replicate n x) ∙ sum_by-replicate (λ y. length (f y)) n x
 
 full_list_lawful : LawfulList 512 full_list
 full_list_lawful = record { count = omega arith; ascends = search arith; below = search arith }
@@ -91,4 +89,7 @@ largest_proper = record {
 }
 
 pub largest_reached : length (file_bytes largest) ≡ 47110
-largest_reached = length_file 512 1024 512 (replicate 1024 full_fare) (replicate 512 full_term) (sym (length-replicate 1024 full_fare)) (sym (length-replicate 512 full_term)) ∙ omega (arith, length-append (flat_map fare_bytes (replicate 1024 full_fare)) (flat_map term_bytes (replicate 512 full_term)), joined_replicate fare_bytes 1024 full_fare, joined_replicate term_bytes 512 full_term)
+largest_reached =
+    let fares = ap (λ n. length (encode n)) (length-replicate 1024 full_fare) in
+    let terms = ap (λ n. length (encode n)) (length-replicate 512 full_term) in
+    length_file 512 (replicate 1024 full_fare) (replicate 512 full_term) ∙ omega (arith, fares, terms, joined_replicate fare_bytes 1024 full_fare, joined_replicate term_bytes 512 full_term)

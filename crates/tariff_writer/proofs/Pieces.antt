@@ -1,5 +1,5 @@
 -- How long lines and files are by their parts.
-use Rattle.std.proofs.Common.{◌≡◌, ℕ, ◌+◌, List, ◌++◌, length, sym, ap, ◌∙◌, append_assoc, length-append}
+use Rattle.std.proofs.Common.{◌≡◌, ℕ, ◌+◌, List, ◌++◌, length, length-append}
 use Rattle.std.specs.List.{flat_map}
 use Rattle.lines.specs.declared.fare.FareLine.{FareLine}
 use Rattle.lines.specs.declared.term.TermLine.{TermLine}
@@ -9,7 +9,7 @@ use Rattle.tariff_format.specs.Encoding.{list_bytes, fare_bytes, head_bytes, ter
 use Rattle.tariff_writer.specs.Calls.{tariff_of}
 
 pub length_three : (xs ys zs : List ℕ) → length (xs ++ (ys ++ zs)) ≡ length xs + (length ys + length zs)
-length_three xs ys zs = length-append xs (ys ++ zs) ∙ ap (λ n. length xs + n) (length-append ys zs)
+length_three xs ys zs = simp length-append
 
 -- how long a line is
 pub length_fare : (l : FareLine) → length (fare_bytes l) ≡ length (encode l.head) + (length (list_bytes l.conditions) + length (list_bytes l.unless))
@@ -18,12 +18,6 @@ length_fare l = length_three (encode l.head) (list_bytes l.conditions) (list_byt
 pub length_term : (l : TermLine) → length (term_bytes l) ≡ length (encode (the_kind l.kind).number) + (length (head_bytes l.kind l.head) + length (list_bytes l.conditions))
 length_term l = length_three (encode (the_kind l.kind).number) (head_bytes l.kind l.head) (list_bytes l.conditions)
 
--- a file: its three numbers, and then its lines
-module _ (w f g : ℕ) (fares : List FareLine) (terms : List TermLine) (many_fares : f ≡ length fares) (many_terms : g ≡ length terms) where
-  pub numbers_then_lines : (encode w ++ (encode f ++ encode g)) ++ (flat_map fare_bytes fares ++ flat_map term_bytes terms) ≡ file_bytes (tariff_of w fares terms)
-  numbers_then_lines =
-      let lines = flat_map fare_bytes fares ++ flat_map term_bytes terms in
-      append_assoc (encode w) (encode f ++ encode g) lines ∙ ap (λ l. encode w ++ l) (append_assoc (encode f) (encode g) lines) ∙ (λ i. encode w ++ (encode (many_fares i) ++ (encode (many_terms i) ++ lines)))
-
-  pub length_file : length (file_bytes (tariff_of w fares terms)) ≡ length (encode w ++ (encode f ++ encode g)) + length (flat_map fare_bytes fares ++ flat_map term_bytes terms)
-  length_file = sym (ap length numbers_then_lines) ∙ length-append (encode w ++ (encode f ++ encode g)) (flat_map fare_bytes fares ++ flat_map term_bytes terms)
+-- how long a file is
+pub length_file : (w : ℕ) (fares : List FareLine) (terms : List TermLine) → length (file_bytes (tariff_of w fares terms)) ≡ length (encode w) + (length (encode (length fares)) + (length (encode (length terms)) + (length (flat_map fare_bytes fares) + length (flat_map term_bytes terms))))
+length_file w fares terms = simp length-append

@@ -1,27 +1,19 @@
 -- The turns of a loop over things that are written one behind the other.
-use Rattle.std.proofs.Common.{◌≡◌, ℕ, ◌+◌, ◌<◌, ◌≤◌, List, [], ◌∷◌, ◌++◌, length, get_or, take, drop, sym, refl, ap, ◌∙◌, subst, append_assoc, arith, length-append}
+use Rattle.std.proofs.Common.{◌≡◌, ℕ, ◌+◌, ◌<◌, ◌≤◌, List, [], ◌∷◌, ◌++◌, length, get_or, take, sym, ap, ◌∙◌, subst, arith}
 use Rattle.std.specs.List.{flat_map}
-use Rattle.std.proofs.lemmas.List.{take_more, take-append-drop, flat_map_more}
+use Rattle.std.proofs.lemmas.List.{take_more, flat_map_more}
+use Rattle.std.proofs.lemmas.List.Folds.{length-flat_map-take}
 use Rattle.tariff.specs.Writings.{Written}
 use Rattle.tariff.proofs.Overlays.{written_more}
-
-joined_append : {A : Type 0} (f : A → List ℕ) (xs ys : List A) → flat_map f (xs ++ ys) ≡ flat_map f xs ++ flat_map f ys
-joined_append f [] ys = refl
-joined_append f (x ∷ xs) ys = ap (λ l. f x ++ l) (joined_append f xs ys) ∙ sym (append_assoc (f x) (flat_map f xs) (flat_map f ys))
 
 -- the turn at the place i, where x stands
 module _ {A : Type 0} (f : A → List ℕ) (xs : List A) (i : ℕ) (x : A) (more : i < length xs) (is : x ≡ get_or xs i x) where
   bytes_more : flat_map f (take (i + 1) xs) ≡ flat_map f (take i xs) ++ f x
   bytes_more = ap (flat_map f) (take_more xs i x more ∙ ap (λ y. take i xs ++ y ∷ []) (sym is)) ∙ sym (flat_map_more f [] (take i xs) x)
 
-  pub length_more : length (flat_map f (take (i + 1) xs)) ≡ length (flat_map f (take i xs)) + length (f x)
-  length_more = ap length bytes_more ∙ length-append (flat_map f (take i xs)) (f x)
-
   -- where all have room, the next one has
   pub room_more : length (flat_map f (take i xs)) + length (f x) ≤ length (flat_map f xs)
-  room_more =
-      let whole : flat_map f xs ≡ flat_map f (take (i + 1) xs) ++ flat_map f (drop (i + 1) xs) = ap (flat_map f) (sym (take-append-drop (i + 1) xs)) ∙ joined_append f (take (i + 1) xs) (drop (i + 1) xs) in
-      omega (arith, length_more, ap length whole, length-append (flat_map f (take (i + 1) xs)) (flat_map f (drop (i + 1) xs)))
+  room_more = omega (arith, ap (λ y. length (f y)) is, length-flat_map-take f xs i x more)
 
   -- the next one is written
   pub written_next : (out : List ℕ) (p : ℕ) {o o' : List ℕ} {q q' : ℕ} → p ≤ length out → Written out p (flat_map f (take i xs)) o q → Written o q (f x) o' q' → Written out p (flat_map f (take (i + 1) xs)) o' q'

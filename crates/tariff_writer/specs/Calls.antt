@@ -28,10 +28,14 @@ pub record Sized (t : Tariff) (n : ℕ) : Type 0 where
   pub exact : n ≡ length (file_bytes t)
   pub most : n ≤ 47110
 
--- what a call does that tells the length of a tariff's file: 7 exactly where the width is outside 1 to 512, then 8 where a record
--- breaks a limit
+-- what a call does that first asks whether the tariff is lawful: 7 exactly where the width is outside 1 to 512, then 8 where a
+-- record breaks a limit; else P holds of what it gives
+abbrev pub Checks : {A : Type 0} → Tariff → Result A Refusal → (A → Type 0) → Type 0
+Checks t r P = Test (BadWidth t.width) (Refuses r 7) (Test (LawfulRecords t → ⊥) (Refuses r 8) (Gives r P))
+
+-- what a call does that tells the length of a tariff's file
 abbrev pub Sizes : Tariff → Result ℕ Refusal → Type 0
-Sizes t r = Test (BadWidth t.width) (Refuses r 7) (Test (LawfulRecords t → ⊥) (Refuses r 8) (Gives r (Sized t)))
+Sizes t r = Checks t r (Sized t)
 
 -- the file of a lawful tariff was written over out from the first byte on, which left after, and n is its length
 pub record Filed (t : Tariff) (out after : List ℕ) (n : ℕ) : Type 0 where

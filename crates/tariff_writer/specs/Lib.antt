@@ -1,2 +1,4 @@
 pub mod Calls
+pub mod Lent
+pub mod Props
 pub mod Theorems

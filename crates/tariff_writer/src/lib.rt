@@ -3,7 +3,9 @@
 
 mod encode;
 pub mod file;
+mod lent;
 mod line_bytes;
 mod list;
 mod parts;
+mod tariff_bytes;
 pub mod theorems;

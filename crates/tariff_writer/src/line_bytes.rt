@@ -3,7 +3,6 @@ ghost use Rattle.tariff_format.specs.Encoding.{fare_bytes, term_bytes};
 ghost use Rattle.tariff_format.specs.Tariffs.{WholeFare, WholeTerm};
 
 use crate::encode::Encode;
-use crate::parts::{put_three, put_two, size_three, size_two};
 use lines::fare::FareLine;
 use lines::term::{Kind, TermLine};
 
@@ -13,11 +12,11 @@ impl Encode for FareLine {
     ghost whole = { WholeFare };
 
     fn size(&self) -> usize {
-        size_three(&self.head, &self.conditions, &self.unless)
+        (self.head, (&self.conditions, &self.unless)).size()
     }
 
     fn put(&self, out: &mut [u8], place: usize) -> usize {
-        put_three(&self.head, &self.conditions, &self.unless, out, place)
+        (self.head, (&self.conditions, &self.unless)).put(out, place)
     }
 }
 
@@ -30,16 +29,16 @@ impl Encode for TermLine {
     fn size(&self) -> usize {
         let kind = self.kind.number() as u16;
         match self.kind {
-            Kind::Gives => size_three(&kind, &self.head, &self.conditions),
-            Kind::Denies => size_two(&kind, &self.conditions),
+            Kind::Gives => (kind, (self.head, &self.conditions)).size(),
+            Kind::Denies => (kind, &self.conditions).size(),
         }
     }
 
     fn put(&self, out: &mut [u8], place: usize) -> usize {
         let kind = self.kind.number() as u16;
         match self.kind {
-            Kind::Gives => put_three(&kind, &self.head, &self.conditions, out, place),
-            Kind::Denies => put_two(&kind, &self.conditions, out, place),
+            Kind::Gives => (kind, (self.head, &self.conditions)).put(out, place),
+            Kind::Denies => (kind, &self.conditions).put(out, place),
         }
     }
 }

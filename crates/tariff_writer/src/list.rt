@@ -3,7 +3,6 @@ ghost use Rattle.tariff_format.specs.Encoding.{list_bytes};
 ghost use Rattle.tariff_format.specs.Tariffs.{WholeList};
 
 use crate::encode::Encode;
-use crate::parts::{put_two, size_two};
 use lines::list::MarkList;
 
 // The count, then the marks in the used places.
@@ -13,12 +12,10 @@ impl Encode for MarkList {
     ghost whole = { WholeList };
 
     fn size(&self) -> usize {
-        let count = self.count as u16;
-        size_two(&count, &self.used())
+        (self.count as u16, self.used()).size()
     }
 
     fn put(&self, out: &mut [u8], place: usize) -> usize {
-        let count = self.count as u16;
-        put_two(&count, &self.used(), out, place)
+        (self.count as u16, self.used()).put(out, place)
     }
 }

@@ -1,47 +1,35 @@
-// Two or three things one behind the other.
-ghost use Rattle.std.specs.Prelude.{◌≡◌, ◌+◌, ◌^◌, ◌<◌, ◌≤◌, ◌++◌, length};
-ghost use Rattle.tariff.specs.Writings.{Written};
+// Two things one behind the other, and things that are lent.
+ghost use Rattle.std.specs.Prelude.{◌++◌};
 
 use crate::encode::Encode;
 
-// How many bytes two things take.
-pub(crate) fn size_two<A: Encode, B: Encode>(a: &A, b: &B) -> usize
-    requires { length (A.Encode.bytes a.now ++ B.Encode.bytes b.now) < 2 ^ 64 }
-    ensures { result ≡ length (A.Encode.bytes a.now ++ B.Encode.bytes b.now) }
-{
-    a.size() + b.size()
+// The first, then the second; three things are the first and the other two.
+impl<A: Encode, B: Encode> Encode for (A, B) {
+    ghost bytes = { λ both. A.Encode.bytes both.0 ++ B.Encode.bytes both.1 };
+
+    ghost whole = { λ both. A.Encode.whole both.0 × B.Encode.whole both.1 };
+
+    fn size(&self) -> usize {
+        self.0.size() + self.1.size()
+    }
+
+    fn put(&self, out: &mut [u8], place: usize) -> usize {
+        let place = self.0.put(out, place);
+        self.1.put(out, place)
+    }
 }
 
-// How many bytes three things take.
-pub(crate) fn size_three<A: Encode, B: Encode, C: Encode>(a: &A, b: &B, c: &C) -> usize
-    requires { length (A.Encode.bytes a.now ++ (B.Encode.bytes b.now ++ C.Encode.bytes c.now)) < 2 ^ 64 }
-    ensures { result ≡ length (A.Encode.bytes a.now ++ (B.Encode.bytes b.now ++ C.Encode.bytes c.now)) }
-{
-    a.size() + size_two(b, c)
-}
+// What is lent has the bytes of the thing itself.
+impl<'a, E: Encode> Encode for &'a E {
+    ghost bytes = { λ lent. E.Encode.bytes lent.now };
 
-// Writes two things, one behind the other, from a place on where they have room, and answers the place behind them.
-pub(crate) fn put_two<A: Encode, B: Encode>(a: &A, b: &B, out: &mut [u8], place: usize) -> usize
-    requires { place + length (A.Encode.bytes a.now ++ B.Encode.bytes b.now) ≤ length out.old }
-    ensures written { Written out.old place (A.Encode.bytes a.now ++ B.Encode.bytes b.now) out.new result }
-    ensures whole { A.Encode.whole a.now × B.Encode.whole b.now }
-{
-    let place = a.put(out, place);
-    b.put(out, place)
-}
+    ghost whole = { λ lent. E.Encode.whole lent.now };
 
-// The same for three things.
-pub(crate) fn put_three<A: Encode, B: Encode, C: Encode>(
-    a: &A,
-    b: &B,
-    c: &C,
-    out: &mut [u8],
-    place: usize,
-) -> usize
-    requires { place + length (A.Encode.bytes a.now ++ (B.Encode.bytes b.now ++ C.Encode.bytes c.now)) ≤ length out.old }
-    ensures written { Written out.old place (A.Encode.bytes a.now ++ (B.Encode.bytes b.now ++ C.Encode.bytes c.now)) out.new result }
-    ensures whole { A.Encode.whole a.now × B.Encode.whole b.now × C.Encode.whole c.now }
-{
-    let place = a.put(out, place);
-    put_two(b, c, out, place)
+    fn size(&self) -> usize {
+        (**self).size()
+    }
+
+    fn put(&self, out: &mut [u8], place: usize) -> usize {
+        (**self).put(out, place)
+    }
 }

@@ -21,18 +21,18 @@ right_read v w bs r e some bytes h =
     let same = h ∙ ap (λ n. facts_at n bs) e in
     (same, subst (FactsAnswer v bs) (sym same) (right_facts v bs some bytes))
 
-pub returns-in_err-read_string : goal.returns-in_err-read_string
-returns-in_err-read_string c =
+pub returns-in_err-read_string-clause-says : goal.returns-in_err-read_string-clause-says
+returns-in_err-read_string-clause-says c =
     let out = err_from_is_err_and c.from_residual.result c.from_residual.ensures.1 in
     let wide = made_width c.in-Ok.set c.width.result c.args.old.now.width c.width.ensures c.in-Ok.ensures in
     let bytes = All-from_get_or (λ b. b < 256) c.args.bytes.now 0 (λ i _. (c.type_inv.bytes i).fits) in
     let right = right_read c.args.old.now.width c.in-Ok.set.width c.args.bytes.now _ wide c.args.old.now.some bytes c.in_err-read_string.ensures.value in
-    rw (out.1, out.2) (record { width = tt; value = right.0; says = right.1 })
+    rw (out.1, out.2) right.1
 
-pub returns : goal.returns
-returns c =
+pub returns-clause-says : goal.returns-clause-says
+returns-clause-says c =
     let wide = made_width c.in-Ok.set c.width.result c.args.old.now.width c.width.ensures c.in-Ok.ensures in
     let bytes = All-from_get_or (λ b. b < 256) c.args.bytes.now 0 (λ i _. (c.type_inv.bytes i).fits) in
     let here = c.in_ok-read_string.ensures in
     let right = right_read c.args.old.now.width c.in-Ok.set.width c.args.bytes.now _ wide c.args.old.now.some bytes here.value in
-    record { width = here.width ∙ wide; value = right.0; says = right.1.0 }
+    right.1.0

@@ -20,9 +20,9 @@ loop-m-preserved c =
     let one = c.number_size-total.ensures in
     (omega arith, omega arith, omega arith)
 
-pub returns : goal.returns
-returns c =
+pub returns-clause-exact : goal.returns-clause-exact
+returns-clause-exact c =
     let S = marks_of c.args.facts.now in
     let inv = c.loop-m.invariant in
     let all = ap length (bytes_all c.loop-m.at c.args.facts.now.width S inv.0 c.in_default.ensures.next) in
-    record { exact = omega arith; few = omega arith }
+    omega arith
