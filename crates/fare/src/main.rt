@@ -1,20 +1,16 @@
 // The program for fitters and tariff writers: it shows what the module makes of the bytes it is given.
 #![tactic(auto)]
 
-mod facts;
-mod hex;
-mod numbers;
 mod sample;
 mod settle;
-mod text;
+mod words;
 
 use anyhow::anyhow;
-use facts::show_facts;
-use hex::hex_bytes;
-use numbers::show_number;
 use settle::{show_closed, show_settled};
-use std::alloc::Global;
-use std::env;
+use std::{env, io};
+use texts::facts_string::FactsString;
+use texts::number::NumberText;
+use words::{hex_bytes, marks_of, width};
 
 const HELP: &str = "\
 fare                              the sample: a facts string read, and its trip settled
@@ -32,10 +28,11 @@ fn main(rt: HostRuntime) -> anyhow::Result<()> {
 }
 
 fn run(rt: &HostRuntime) -> anyhow::Result<()> {
-    let words: Vec<String> = env::args(rt)?.skip(1).collect(rt.alloc())?;
+    let args: Vec<String> = env::args(rt)?.skip(1).collect(rt.alloc())?;
+    let words: Vec<&str> = args.iter().map(|word| word.as_str()).collect(rt.alloc())?;
     match words.as_slice() {
         [] => show_sample(rt),
-        [word] if word.as_str() == "-" => performed(rt),
+        ["-"] => performed(rt),
         all => perform(rt, all),
     }
 }
@@ -44,25 +41,20 @@ fn run(rt: &HostRuntime) -> anyhow::Result<()> {
 fn performed(rt: &HostRuntime) -> anyhow::Result<()> {
     for line in rt.lines(rt.alloc()) {
         let line = line?;
-        let mut words = Vec::new(rt.alloc());
-        for word in line.as_str().split_whitespace() {
-            words.push(String::from_str(rt.alloc(), word)?)?;
-        }
+        let words: Vec<&str> = line.as_str().split_whitespace().collect(rt.alloc())?;
         perform(rt, words.as_slice())?;
     }
     Ok(())
 }
 
-fn perform(rt: &HostRuntime, words: &[String]) -> anyhow::Result<()> {
-    let [command, rest @ ..] = words else {
-        return Ok(());
-    };
-    match command.as_str() {
-        "facts" => facts_strings(rt, rest),
-        "numbers" => number_strings(rt, rest),
-        "close" => Ok(show_closed(rt, marks_of(rt.alloc(), rest)?.as_slice())?),
-        "settle" => Ok(show_settled(rt, marks_of(rt.alloc(), rest)?.as_slice())?),
-        "--help" => Ok(rt.println(HELP)?),
+fn perform(rt: &HostRuntime, words: &[&str]) -> anyhow::Result<()> {
+    match words {
+        [] => Ok(()),
+        ["facts", strings @ ..] => facts_strings(rt, strings),
+        ["numbers", strings @ ..] => number_strings(rt, strings),
+        ["close", marks @ ..] => Ok(show_closed(rt, &marks_of(rt.alloc(), marks)?)?),
+        ["settle", marks @ ..] => Ok(show_settled(rt, &marks_of(rt.alloc(), marks)?)?),
+        ["--help", ..] => Ok(rt.println(HELP)?),
         _ => Err(anyhow!("no such command: fare --help lists them")),
     }
 }
@@ -76,41 +68,30 @@ fn show_sample(rt: &HostRuntime) -> anyhow::Result<()> {
     Ok(())
 }
 
-// Takes the words two by two: a width and a facts string.
-fn facts_strings(rt: &HostRuntime, words: &[String]) -> anyhow::Result<()> {
-    let mut width = None;
-    for word in words {
-        match width {
-            None => match word.as_str().parse::<u16>() {
-                Ok(w) => width = Some(w),
-                Err(_) => return Err(anyhow!("a width is a number up to 65,535")),
-            },
-            Some(w) => {
-                show_facts(rt, w, &hex_bytes(rt.alloc(), word.as_str())?)?;
-                width = None;
-            }
-        }
-    }
-    match width {
-        None => Ok(()),
-        Some(_) => Err(anyhow!("a facts string must follow its width")),
-    }
+fn show_facts(rt: &HostRuntime, width: u16, bytes: &[u8]) -> io::Result<()> {
+    let facts = FactsString { width, bytes };
+    println!(rt; "{facts}")
 }
 
-fn number_strings(rt: &HostRuntime, words: &[String]) -> anyhow::Result<()> {
-    for word in words {
-        show_number(rt, &hex_bytes(rt.alloc(), word.as_str())?)?;
+// Takes the words two by two: a width and a facts string.
+fn facts_strings(rt: &HostRuntime, words: &[&str]) -> anyhow::Result<()> {
+    let (pairs, rest) = words.as_chunks::<2>();
+    for [number, digits] in pairs {
+        let width = width(number)?;
+        show_facts(rt, width, &hex_bytes(rt.alloc(), digits)?)?;
+    }
+    let Some(number) = rest.first() else {
+        return Ok(());
+    };
+    width(number)?;
+    Err(anyhow!("a facts string must follow its width"))
+}
+
+fn number_strings(rt: &HostRuntime, words: &[&str]) -> anyhow::Result<()> {
+    for digits in words {
+        let bytes = hex_bytes(rt.alloc(), digits)?;
+        let number = NumberText(&bytes);
+        println!(rt; "{number}")?;
     }
     Ok(())
-}
-
-fn marks_of(heap: Global, words: &[String]) -> anyhow::Result<Vec<u16>> {
-    let mut marks = Vec::new(heap);
-    for word in words {
-        match word.as_str().parse::<u16>() {
-            Ok(m) => marks.push(m)?,
-            Err(_) => return Err(anyhow!("a mark is a number up to 65,535")),
-        }
-    }
-    Ok(marks)
 }

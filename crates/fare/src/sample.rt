@@ -22,11 +22,11 @@ pub(crate) fn terms() -> [TermLine; 2] {
     };
     let denied = TermLine {
         kind: Kind::Denies,
-        head: 0,
         conditions: MarkList {
             count: 2,
             marks: [1, 2, 0, 0, 0, 0, 0, 0],
         },
+        ..TermLine::default()
     };
     [gives, denied]
 }

@@ -1,13 +1,14 @@
 // The sample tariff at work: sets closed under its terms, and trips settled.
 use crate::sample;
-use crate::text::{Braced, Listed, show_refusal};
 use books::book::TermBook;
 use marks::refusal::Refusal;
 use marks::set::MarkSet;
 use readings::method::Method;
-use readings::verdict::Verdict;
 use settling::settle::{Judged, settle};
-use std::io;
+use std::{fmt, io};
+use texts::listed::Braced;
+use texts::refused::RefusalText;
+use texts::trip::{Closed, Facts};
 
 // The set of these marks, for the sample's width.
 fn set_of(marks: &[u16]) -> Result<MarkSet, Refusal> {
@@ -16,14 +17,6 @@ fn set_of(marks: &[u16]) -> Result<MarkSet, Refusal> {
         set.insert(*m)?;
     }
     Ok(set)
-}
-
-// A set, its closure under the sample's terms, and whether they clash at it.
-#[derive(Clone, Copy)]
-struct Closed {
-    given: MarkSet,
-    closure: MarkSet,
-    clash: bool,
 }
 
 fn close(marks: &[u16]) -> Result<Closed, Refusal> {
@@ -39,65 +32,58 @@ fn close(marks: &[u16]) -> Result<Closed, Refusal> {
 }
 
 pub(crate) fn show_closed(rt: &HostRuntime, marks: &[u16]) -> io::Result<()> {
-    match close(marks) {
-        Err(refusal) => show_refusal(rt, refusal),
-        Ok(closed) => {
-            let from = Braced(&closed.given);
-            let to = Braced(&closed.closure);
-            let how = if closed.clash {
-                "and clashes"
-            } else {
-                "without a clash"
-            };
-            println!(rt; "{from} closes to {to} {how}")
-        }
-    }
-}
-
-// The trip with these facts, by one method.
-fn settled(marks: &[u16], method: Method) -> Result<Judged, Refusal> {
-    let book = sample::book()?;
-    settle(&sample::fares(), &book, &set_of(marks)?, method)
+    show(rt, close(marks))
 }
 
 pub(crate) fn show_settled(rt: &HostRuntime, marks: &[u16]) -> io::Result<()> {
     match set_of(marks) {
-        Err(refusal) => return show_refusal(rt, refusal),
-        Ok(set) => show_given(rt, &set)?,
-    }
-    show_method(rt, marks, Method::First)?;
-    show_method(rt, marks, Method::Second)
-}
-
-fn show_given(rt: &HostRuntime, facts: &MarkSet) -> io::Result<()> {
-    let marks = Listed(facts);
-    match facts.count() {
-        0 => println!(rt; "no facts under the sample tariff"),
-        1 => println!(rt; "fact {marks} under the sample tariff"),
-        _ => println!(rt; "facts {marks} under the sample tariff"),
-    }
-}
-
-fn show_method(rt: &HostRuntime, marks: &[u16], method: Method) -> io::Result<()> {
-    match settled(marks, method) {
         Err(refusal) => show_refusal(rt, refusal),
-        Ok(judged) => {
-            let number = method.number();
-            let rounds = judged.settled.rounds;
-            let verdict = verdict_word(judged.verdict);
-            println!(rt; "  method {number}: {verdict} after {rounds} rounds")?;
-            show_reading(rt, &judged.settled.lower, &judged.settled.upper)
+        Ok(set) => {
+            let facts = Facts(&set);
+            println!(rt; "{facts} under the sample tariff")?;
+            show(rt, by_method(&set, Method::First))?;
+            show(rt, by_method(&set, Method::Second))
         }
     }
 }
 
-// The marks that hold, are not, are open and are both.
+// Prints what was found, or why there is nothing.
+fn show<T: fmt::Display + Copy>(rt: &HostRuntime, found: Result<T, Refusal>) -> io::Result<()> {
+    match found {
+        Ok(text) => println!(rt; "{text}"),
+        Err(refusal) => show_refusal(rt, refusal),
+    }
+}
+
+fn show_refusal(rt: &HostRuntime, refusal: Refusal) -> io::Result<()> {
+    let why = RefusalText(refusal);
+    println!(rt; "  {why}")
+}
+
+// A trip settled by one method: the verdict, T and U, and the marks that hold, are not, are open and are both.
+#[derive(Clone, Copy)]
+struct ByMethod {
+    method: Method,
+    judged: Judged,
+    answers: Answers,
+}
+
 #[derive(Clone, Copy)]
 struct Answers {
     holds: MarkSet,
     not: MarkSet,
     open: MarkSet,
     both: MarkSet,
+}
+
+fn by_method(facts: &MarkSet, method: Method) -> Result<ByMethod, Refusal> {
+    let judged = settle(&sample::fares(), &sample::book()?, facts, method)?;
+    let answers = answered(&judged.settled.lower, &judged.settled.upper)?;
+    Ok(ByMethod {
+        method,
+        judged,
+        answers,
+    })
 }
 
 fn answered(lower: &MarkSet, upper: &MarkSet) -> Result<Answers, Refusal> {
@@ -118,27 +104,26 @@ fn answered(lower: &MarkSet, upper: &MarkSet) -> Result<Answers, Refusal> {
     })
 }
 
-fn show_reading(rt: &HostRuntime, lower: &MarkSet, upper: &MarkSet) -> io::Result<()> {
-    let low = Braced(lower);
-    let up = Braced(upper);
-    println!(rt; "    T {low}, U {up}")?;
-    match answered(lower, upper) {
-        Err(refusal) => show_refusal(rt, refusal),
-        Ok(answers) => {
-            let holds = Braced(&answers.holds);
-            let not = Braced(&answers.not);
-            let open = Braced(&answers.open);
-            let both = Braced(&answers.both);
-            println!(rt; "    holds {holds}, not {not}, open {open}, both {both}")
-        }
+impl fmt::Display for ByMethod {
+    fn fmt<W: fmt::Write>(&self, f: &mut fmt::Formatter<W>) -> fmt::Result {
+        let number = self.method.number();
+        let verdict = self.judged.verdict;
+        let rounds = self.judged.settled.rounds;
+        let lower = Braced(&self.judged.settled.lower);
+        let upper = Braced(&self.judged.settled.upper);
+        let answers = self.answers;
+        writeln!(f, "  method {number}: {verdict} after {rounds} rounds")?;
+        writeln!(f, "    T {lower}, U {upper}")?;
+        write!(f, "    {answers}")
     }
 }
 
-// Only broken says that there is no sound reading.
-fn verdict_word(verdict: Verdict) -> &'static str {
-    match verdict {
-        Verdict::Clear => "clear",
-        Verdict::Suspect => "suspect",
-        Verdict::Broken => "broken",
+impl fmt::Display for Answers {
+    fn fmt<W: fmt::Write>(&self, f: &mut fmt::Formatter<W>) -> fmt::Result {
+        let holds = Braced(&self.holds);
+        let not = Braced(&self.not);
+        let open = Braced(&self.open);
+        let both = Braced(&self.both);
+        write!(f, "holds {holds}, not {not}, open {open}, both {both}")
     }
 }
