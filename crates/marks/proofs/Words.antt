@@ -1,10 +1,11 @@
 -- The marks that words hold: after a write, a word at a time, from a place on.
-use Rattle.std.proofs.Common.{◌≡◌, ℕ, zero, suc, ◌+◌, ◌-◌, ◌*◌, ◌/◌, ◌%◌, ◌^◌, ◌<◌, ◌≤◌, Bool, true, false, cond, not, ◌&&◌, ◌||◌, T, eqb, ◌⊎◌, List, length, get_or, set, replicate, sym, refl, ap, ◌∙◌, ap₂, subst, inl, inr, ⊎_elim, arith, get_or-set_other, get_or-set_same}
+use Rattle.std.proofs.Common.{◌≡◌, ℕ, zero, suc, ◌+◌, ◌-◌, ◌*◌, ◌/◌, ◌%◌, ◌^◌, ◌<◌, ◌≤◌, Bool, true, false, cond, not, ◌&&◌, ◌||◌, T, eqb, ◌⊎◌, List, [], ◌∷◌, length, sum_by, get_or, set, replicate, sym, refl, ap, ◌∙◌, ap₂, subst, inl, inr, ⊎_elim, arith, get_or-set_other, get_or-set_same}
 use mathlib.Core.Path.{fun_ext}
 use lib.Bits.{bit_and, bit_or, and_le_l}
 use lib.Count.{ones, count_trailing_zeros}
 use lib.ListN.{get_or-eq_default}
 use Rattle.std.proofs.lemmas.Nat.{one_shl, shr_le}
+use Rattle.std.proofs.lemmas.List.Sums.{sum_by-cons}
 use Rattle.std.proofs.lemmas.Bool.{cases_eq, cases_lt, eq-eqb, ne_eqb, both_ways}
 use Rattle.std.proofs.lemmas.Bool.Decides.{nat_tests}
 use Rattle.std.specs.Array.{IsFromFnResult, IsFromFnResultFrom}
@@ -85,7 +86,7 @@ pub held_word : (ws : List ℕ) (i k : ℕ) → k < 64 → held ws (64 * i + k) 
 held_word ws i k l = ap₂ (λ (x y : ℕ). bit (get_or ws x 0) y) (omega arith) (omega arith)
 
 -- eight words, each made by a call at its index, hold the marks of S if each call gives the marks of its word
-module _ {F : Type 0} (g : Mut F (ℕ × Unit {0}) ℕ) (f : F) (S : Marks) (ws : List ℕ)
+module _ {F : Type 0} {g : Mut F (ℕ × Unit {0}) ℕ} {f : F} (S : Marks) (ws : List ℕ)
     (step : (i v : ℕ) (f' : F) → Called g f (i, tt) v f' → (f' ≡ f) × ((k : ℕ) → k < 64 → bit v k ≡ S (64 * i + k))) where
   made_from : (n i : ℕ) → IsFromFnResultFrom g f ws i n → (j k : ℕ) → i ≤ j → j < i + n → k < 64 → bit (get_or ws j 0) k ≡ S (64 * j + k)
   made_from zero i all j k h l b = absurd (omega arith)
@@ -127,10 +128,9 @@ word_within a b k hb hk z t = holds (go (bit a k) (bit b k) (is_true (bit a k) t
     go : (x y : Bool) → x ≡ true → (x && not y) ≡ false → y ≡ true
     go x y e f = grind (arith, nat_tests)
 
--- and where one does, it is not
-pub word_beyond : (a b : ℕ) → a < 2 ^ 64 → b < 2 ^ 64 → (bit_and a (2 ^ 64 - 1 - b) ≡ 0 → ⊥) → ((k : ℕ) → k < 64 → k ∈ bit a → k ∈ bit b) → ⊥
-word_beyond a b ha hb some within =
-    some (bits_eq 64 (bit_and a (2 ^ 64 - 1 - b)) 0 small (omega arith) (λ k h. here k h ∙ sym (bit_zero k)))
+-- and where every bit of a is one of b, none lies outside
+pub word_no_more : (a b : ℕ) → a < 2 ^ 64 → b < 2 ^ 64 → ((k : ℕ) → k < 64 → k ∈ bit a → k ∈ bit b) → bit_and a (2 ^ 64 - 1 - b) ≡ 0
+word_no_more a b ha hb within = bits_eq 64 (bit_and a (2 ^ 64 - 1 - b)) 0 small (omega arith) (λ k h. here k h ∙ sym (bit_zero k))
   where
     go : (x y : Bool) → (T x → T y) → T (x && not y) → ⊥
     go true true f t = t
@@ -182,11 +182,21 @@ module _ (ws : List ℕ) (from : ℕ) (small : get_or ws (from / 64) 0 < 2 ^ 64)
       let i = lead_inside in
       held_from ws from k h (omega arith) ∙ trailing_below 64 n (k - from) (omega arith)
 
--- the words up to the next one hold as many more marks as its bits
-pub size_word : (ws : List ℕ) (i : ℕ) → get_or ws i 0 < 2 ^ 64 → size (64 * (i + 1)) (held ws) ≡ size (64 * i) (held ws) + ones (get_or ws i 0)
-size_word ws i h =
-    let e : 64 * (i + 1) ≡ 64 * i + 64 = omega arith in
-    ap (λ (n : ℕ). size n (held ws)) e ∙ size_add (64 * i) 64 (held ws)
-    ∙ ap (λ (x : ℕ). size (64 * i) (held ws) + x)
-    (size_same 64 (λ k. held ws (64 * i + k)) (bit (get_or ws i 0)) (held_word ws i)
-    ∙ sym (ones_size 64 (get_or ws i 0) h))
+-- words hold as many marks as they have ones
+pub ones_held : (ws : List ℕ) → ((i : ℕ) → get_or ws i 0 < 2 ^ 64) → sum_by ones ws ≡ size (64 * length ws) (held ws)
+unfolding size
+ones_held [] fits = refl
+ones_held (x ∷ xs) fits =
+    let n = length xs in
+    let e : 64 * length (x ∷ xs) ≡ 64 + 64 * n = omega arith in
+    sum_by-cons ones x xs
+    ∙ ap₂ (λ (a b : ℕ). a + b) (ones_size 64 x (fits 0) ∙ size_same 64 (bit x) (held (x ∷ xs)) front)
+    (ones_held xs (λ i. fits (suc i)) ∙ size_same (64 * n) (held xs) (λ k. held (x ∷ xs) (64 + k)) behind)
+    ∙ sym (ap (λ (w : ℕ). size w (held (x ∷ xs))) e ∙ size_add 64 (64 * n) (held (x ∷ xs)))
+  where
+    front : (k : ℕ) → k < 64 → bit x k ≡ held (x ∷ xs) k
+    front k l = sym (ap₂ (λ (i j : ℕ). bit (get_or (x ∷ xs) i 0) j) (let h : k / 64 ≡ 0 = omega arith in h) (let h : k % 64 ≡ k = omega arith in h))
+
+    behind : (k : ℕ) → k < 64 * length xs → held xs k ≡ held (x ∷ xs) (64 + k)
+    behind k l =
+        sym (ap₂ (λ (i j : ℕ). bit (get_or (x ∷ xs) i 0) j) (let h : (64 + k) / 64 ≡ suc (k / 64) = omega arith in h) (let h : (64 + k) % 64 ≡ k % 64 = omega arith in h))

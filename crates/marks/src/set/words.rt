@@ -76,23 +76,13 @@ pub(super) fn join_words<F: Fn(u64, u64) -> u64>(a: &[u64; 8], b: &[u64; 8], op:
 pub(super) fn words_within(a: &[u64; 8], b: &[u64; 8]) -> bool
     ensures { Decides result (held a.now ⊆ held b.now) }
 {
-    for i in 0..8 {
-        if a[i] & !b[i] != 0 {
-            return false;
-        }
-    }
-    true
+    a.iter().zip(b).all(|(x, y)| x & !y == 0)
 }
 
 pub(super) fn words_same(a: &[u64; 8], b: &[u64; 8]) -> bool
     ensures { Decides result (held a.now ≡ held b.now) }
 {
-    for i in 0..8 {
-        if a[i] != b[i] {
-            return false;
-        }
-    }
-    true
+    a == b
 }
 
 // The lowest mark at or after `at`, found by the zeros below it in its word.
@@ -119,23 +109,7 @@ pub(super) fn count_marks(words: &[u64; 8], width: u16) -> u16
     requires inside { OfWidth width (held words.now) }
     ensures { result ≡ size width (held words.now) }
 {
-    let mut n = 0;
-    for w in words {
-        n += w.count_ones() as u16;
-    }
-    n
-}
-
-// The share of one word; `used` has the marks in use.
-fn overlap_word(a: u64, b: u64, used: u64) -> Overlap
-    ensures { Overlaps 64 (bit used) (bit a) (bit b) result }
-{
-    Overlap {
-        both: (a & b).count_ones() as u16,
-        neither: (used & !(a | b)).count_ones() as u16,
-        first: (a & !b).count_ones() as u16,
-        second: (b & !a).count_ones() as u16,
-    }
+    words.iter().map(|w| w.count_ones() as u16).sum()
 }
 
 // How the marks below the width are shared out, by the ones of the two sets' words combined.
@@ -145,18 +119,12 @@ pub(super) fn count_overlap(a: &[u64; 8], b: &[u64; 8], width: u16) -> Overlap
     requires second { OfWidth width (held b.now) }
     ensures { Overlaps width (below width) (held a.now) (held b.now) result }
 {
-    let mut total = Overlap {
-        both: 0,
-        neither: 0,
-        first: 0,
-        second: 0,
-    };
-    for i in 0..8 {
-        let word = overlap_word(a[i], b[i], word_below(width, i));
-        total.both += word.both;
-        total.neither += word.neither;
-        total.first += word.first;
-        total.second += word.second;
+    let less = |x: u64, y: u64| x & !y;
+    let either = join_words(a, b, |x, y| x | y);
+    Overlap {
+        both: count_marks(&join_words(a, b, |x, y| x & y), width),
+        neither: count_marks(&join_words(&words_below(width), &either, less), width),
+        first: count_marks(&join_words(a, b, less), width),
+        second: count_marks(&join_words(b, a, less), width),
     }
-    total
 }

@@ -12,7 +12,7 @@ returns g c =
     let b = c.args.b.now in
     let on = g.by.on in
     let e : held c.from_fn.result ≡ joined on (held a) (held b) =
-    made_held _ _ (joined on (held a) (held b)) c.from_fn.result
+    made_held (joined on (held a) (held b)) c.from_fn.result
     (λ i v f' call. (
       search rules,
       λ k l. ap (λ x. bit x k) (c.requires.1.1 (get_or a i 0) (get_or b i 0) v (c.fits-a i) (c.fits-b i) (search rules))

@@ -10,5 +10,5 @@ pub returns : goal.returns
 returns c =
     let w = c.args.width in
     let e : held c.from_fn.result ≡ below w =
-    made_held _ _ (below w) c.from_fn.result (λ i v f' call. search rules) c.from_fn.ensures.items (λ m h. le-ltb m w (omega arith)) in
+    made_held (below w) c.from_fn.result (λ i v f' call. search rules) c.from_fn.ensures.items (λ m h. le-ltb m w (omega arith)) in
     record { marks = e; inside = equal_within e }
