@@ -1,39 +1,38 @@
 -- What chains over the marks of a list, or over records, tell.
-use Rattle.std.proofs.Common.{◌≡◌, ℕ, ◌+◌, ◌<◌, Bool, true, false, not, ◌&&◌, ◌||◌, List, [], ◌∷◌, length, get_or, suc, zero, MatchBool, Decides, refl, sym, ap, ◌∙◌, subst, arith}
+use Rattle.std.proofs.Common.{◌≡◌, ℕ, ◌+◌, ◌<◌, Bool, true, false, not, ◌&&◌, ◌||◌, List, [], ◌∷◌, length, get_or, suc, zero, Decides, refl, sym, ap, ◌∙◌, subst, arith}
 use lib.Dec.{ltb}
+use denote.Param.Members.{Mut}
+use denote.Ref.{Bor}
+use Rattle.std.specs.Fn.{Called, ComputesOnPairs}
+use Rattle.std.proofs.lemmas.List.Sorted.{answers_always}
 use borrow.Author.Tests.{ltb-true, ltb-false}
 use Rattle.std.proofs.lemmas.Bool.{false≢true}
-use Rattle.std.proofs.lemmas.Iterator.Search.{true_from_All}
-use Rattle.std.proofs.lemmas.List.Elements.{recursion_from_All, All-from_recursion, All-from_all_within}
+use Rattle.std.proofs.lemmas.List.Elements.{recursion_from_All}
 use Rattle.std.proofs.lemmas.List.Kept.{AllPairs-from_increasing}
-use Rattle.std.specs.List.{list_all, list_any, AllByRecursion, AllWithin, HoldsAt, IsAllAdjacentAnswer}
+use Rattle.std.specs.List.{list_all, list_any, IsAllAdjacentAnswer}
 use Rattle.std.specs.List.Sorted.{IsStrictlyIncreasing}
 use Rattle.marks.specs.Sets.{Marks}
 use Rattle.readings.specs.Computed.{has_all, has_none}
 use Rattle.lines.specs.Lawful.{Ascends}
 
 -- whether a set has all, or none, of the marks
-pub all_told : (S : Marks) (ms : List ℕ) → list_all S ms ≡ has_all ms S
-all_told S [] = refl
-all_told S (m ∷ ms) = ap (λ (b : Bool). S m && b) (all_told S ms)
+listed_all : (S : Marks) (ms : List ℕ) → list_all S ms ≡ has_all ms S
+listed_all S [] = refl
+listed_all S (m ∷ ms) = ap (λ (b : Bool). S m && b) (listed_all S ms)
+
+pub all_told : (S : Marks) (ms : List ℕ) (r : Bool) → r ≡ list_all S ms → r ≡ has_all ms S
+all_told S ms r told = told ∙ listed_all S ms
 
 not_or : (a b : Bool) → not (a || b) ≡ (not a && not b)
 not_or true b = refl
 not_or false b = refl
 
-pub none_told : (S : Marks) (ms : List ℕ) → not (list_any S ms) ≡ has_none ms S
-none_told S [] = refl
-none_told S (m ∷ ms) = not_or (S m) (list_any S ms) ∙ ap (λ (b : Bool). not (S m) && b) (none_told S ms)
+listed_none : (S : Marks) (ms : List ℕ) → not (list_any S ms) ≡ has_none ms S
+listed_none S [] = refl
+listed_none S (m ∷ ms) = not_or (S m) (list_any S ms) ∙ ap (λ (b : Bool). not (S m) && b) (listed_none S ms)
 
--- whether each passes a test
-pub each_told : {X : Type 0} (P : X → Type 0) (xs : List X) (r : Bool)
-    → MatchBool r (AllWithin P xs 0 (length xs)) ((k : ℕ) × (k < length xs) × HoldsAt (λ x. P x → ⊥) xs k)
-    → Decides r (AllByRecursion P xs)
-each_told P xs true told = ((λ _. recursion_from_All P xs (All-from_all_within P xs told)), λ _. refl)
-each_told P xs false told = (
-  (λ e. absurd (false≢true e)),
-  λ all. true_from_All P (λ x. P x → ⊥) false xs (λ x p n. n p) told (All-from_recursion P xs all),
-)
+pub none_told : (S : Marks) (ms : List ℕ) (r : Bool) → r ≡ list_any S ms → not r ≡ has_none ms S
+none_told S ms r told = ap not told ∙ listed_none S ms
 
 -- whether each is below the next: then each is below all that follow
 rising : (ms : List ℕ) → IsStrictlyIncreasing ms → Ascends ms
@@ -53,9 +52,9 @@ next_above (m ∷ ms) (suc k) d a inside =
     let e : suc (k + 1) ≡ suc k + 1 = omega arith in
     subst (λ (n : ℕ). get_or ms k d < get_or (m ∷ ms) n d) e (next_above ms k d a.1 (omega arith))
 
-pub rise_told : (ms : List ℕ) (r : Bool) → IsAllAdjacentAnswer (λ x y b. b ≡ ltb x y) ms r → Decides r (Ascends ms)
-rise_told ms true told = ((λ _. rising ms (λ k inside. ltb-true _ _ (sym (told k 0 inside)))), λ _. refl)
-rise_told ms false told = (
+rises : (ms : List ℕ) (r : Bool) → IsAllAdjacentAnswer (λ x y b. b ≡ ltb x y) ms r → Decides r (Ascends ms)
+rises ms true told = ((λ _. rising ms (λ k inside. ltb-true _ _ (sym (told k 0 inside)))), λ _. refl)
+rises ms false told = (
   (λ e. absurd (false≢true e)),
   λ a.
       let k = told.0 in
@@ -63,3 +62,10 @@ rise_told ms false told = (
       let h = ltb-false (get_or ms k 0) (get_or ms (k + 1) 0) (sym (told.2 0)) in
       absurd (omega arith),
 )
+
+-- by the clause of `is_sorted_by`, for a closure that tests whether the first is below the second
+pub rise_told : {F : Type 0} {g : Mut F (Bor ℕ × (Bor ℕ × Unit {0})) Bool} {f : F} (ms : List ℕ) (r : Bool)
+    → ((e : ℕ → ℕ → Bool) → ComputesOnPairs g e f → IsAllAdjacentAnswer (λ x y b. b ≡ e x y) ms r)
+    → ((f : F) (a : Bor ℕ × (Bor ℕ × Unit {0})) (b : Bool) (f' : F) → Called g f a b f' → b ≡ ltb a.0.now a.1.0.now)
+    → Decides r (Ascends ms)
+rise_told {F} {g} {f} ms r cases tells = rises ms r (cases ltb (answers_always g (λ a b. b ≡ ltb a.0.now a.1.0.now) f tells))

@@ -1,4 +1,4 @@
-use Rattle.std.proofs.Common.{rules, tests, ◌∙◌}
+use Rattle.std.proofs.Common.{rules, tests}
 use Rattle.std.proofs.lemmas.Iterator.{YieldsList-from_slice}
 use Rattle.std.proofs.lemmas.Iterator.Search.{all_from_yields_List}
 use Rattle.marks.specs.MarkSets.{marks_of}
@@ -8,5 +8,5 @@ use Rattle.lines.proofs.list.MarkList.all_in.Goals as goal
 
 pub returns : goal.returns
 returns c =
-    all_from_yields_List (marks_of c.args.set.now) _ _ _ c.all.ensures.ran (YieldsList-from_slice (used c.args.self.now) cc) (λ x b q k. search (rules, tests))
-    ∙ all_told (marks_of c.args.set.now) (used c.args.self.now)
+    all_told (marks_of c.args.set.now) (used c.args.self.now) c.all.result
+    (all_from_yields_List _ _ _ _ c.all.ensures.ran (YieldsList-from_slice (used c.args.self.now) cc) (λ x b q k. search (rules, tests)))
