@@ -1,2 +1,1 @@
 pub mod Always
-pub mod Laws

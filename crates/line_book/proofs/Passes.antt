@@ -4,7 +4,7 @@ use Rattle.std.proofs.lemmas.Bool.{true≢false}
 use Rattle.books.specs.Denials.{some_stands}
 use Rattle.lines.specs.declared.pass.Passed.{Passed}
 use Rattle.lines.specs.declared.term.TermLine.{TermLine}
-use Rattle.lines.specs.Passes.{View, Passes, swept, stood}
+use Rattle.lines.specs.Passes.{Passes, swept, stood}
 use Rattle.lines.specs.Views.{term_view}
 use Rattle.lines.proofs.Passing.{swept_more}
 use Rattle.marks.specs.declared.set.MarkSet.{MarkSet}
@@ -14,40 +14,34 @@ use Rattle.line_book.specs.Lines.{LawfulLines, denials, grown}
 use Rattle.line_book.specs.Growing.{OnTheWay, one_more, at_end, stood_end}
 use Rattle.line_book.specs.Seeing.{heads_below}
 
-module _ (w : ℕ) (ls : List TermLine) (S : Marks) (here after : MarkSet) (p : Passed) (same : here.width ≡ w) (passes : Passes (map term_view ls) here after p) where
-  abbrev vs : List View
-  vs = map term_view ls
-
-  abbrev X : Marks
-  X = marks_of here
-
-  inside : OfWidth w X
-  inside = subst (λ (n : ℕ). OfWidth n X) same here.inside
-
+module _ (ls : List TermLine) {w : ℕ} {here after : MarkSet} {p : Passed} (passes : Passes (map term_view ls) here after p) (same : here.width ≡ w) where
   pub passed_width : after.width ≡ w
   passed_width = passes.set.width ∙ same
 
-  passed_marks : marks_of after ≡ swept w vs X
-  passed_marks = subst (λ (n : ℕ). marks_of after ≡ swept n vs X) same passes.set.marks
+  passed_marks : marks_of after ≡ swept w (map term_view ls) (marks_of here)
+  passed_marks = subst (λ (n : ℕ). marks_of after ≡ swept n (map term_view ls) (marks_of here)) same passes.set.marks
+
+  inside : OfWidth w (marks_of here)
+  inside = subst (λ (n : ℕ). OfWidth n (marks_of here)) same here.inside
 
   -- another pass is on the way, and one that adds makes the set greater
-  pub passed_way : OnTheWay ls S X → OnTheWay ls S (marks_of after)
-  passed_way way = subst (OnTheWay ls S) (sym passed_marks) (one_more w ls S X way)
+  pub passed_way : {S : Marks} → OnTheWay ls S (marks_of here) → OnTheWay ls S (marks_of after)
+  passed_way {S} way = subst (OnTheWay ls S) (sym passed_marks) (one_more w ls S (marks_of here) way)
 
-  pub passed_more : not p.added ≡ false → size w X < size w (marks_of after)
+  pub passed_more : not p.added ≡ false → size w (marks_of here) < size w (marks_of after)
   passed_more e =
-      subst (λ (Y : Marks). size w X < size w Y) (sym passed_marks)
-      (swept_more w vs X inside (λ r. true≢false (sym (passes.added.1 (passed_marks ∙ r)) ∙ e)))
+      subst (λ (Y : Marks). size w (marks_of here) < size w Y) (sym passed_marks)
+      (swept_more w (map term_view ls) (marks_of here) inside (λ r. true≢false (sym (passes.added.1 (passed_marks ∙ r)) ∙ e)))
 
-  module _ (e : not p.added ≡ true) (way : OnTheWay ls S X) (law : LawfulLines w ls) (s : OfWidth w S) where
-    kept : marks_of after ≡ X
+  module _ {S : Marks} (e : not p.added ≡ true) (way : OnTheWay ls S (marks_of here)) (law : LawfulLines w ls) (s : OfWidth w S) where
+    kept : marks_of after ≡ marks_of here
     kept = passes.added.0 e
 
-    rest : swept w vs X ≡ X
+    rest : swept w (map term_view ls) (marks_of here) ≡ marks_of here
     rest = sym passed_marks ∙ kept
 
-    reached : X ≡ grown w ls S
-    reached = at_end w ls S X way (heads_below w ls law) s inside rest
+    reached : marks_of here ≡ grown w ls S
+    reached = at_end w ls S (marks_of here) way (heads_below w ls law) s inside rest
 
     -- a pass that adds nothing is the last
     pub passed_grown : marks_of after ≡ grown w ls S
@@ -55,6 +49,6 @@ module _ (w : ℕ) (ls : List TermLine) (S : Marks) (here after : MarkSet) (p : 
 
     pub passed_denied : p.stood ≡ some_stands (denials ls) (grown w ls S)
     passed_denied =
-        subst (λ (n : ℕ). p.stood ≡ stood n vs X) same passes.stood
-        ∙ stood_end w ls S X way (heads_below w ls law) s inside rest
+        subst (λ (n : ℕ). p.stood ≡ stood n (map term_view ls) (marks_of here)) same passes.stood
+        ∙ stood_end w ls S (marks_of here) way (heads_below w ls law) s inside rest
         ∙ ap (some_stands (denials ls)) reached

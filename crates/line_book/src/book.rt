@@ -2,7 +2,7 @@
 ghost use Rattle.line_book.specs.Lines.{LawfulLines};
 
 use books::table::Table;
-use lines::term::TermLine;
+use lines::term::{MOST_TERMS, TermLine};
 
 pub mod terms;
 
@@ -10,6 +10,6 @@ pub mod terms;
 #[derive(Drop)]
 pub struct LineBook {
     width: u16,
-    lines: Table<TermLine, 512>,
+    lines: Table<TermLine, MOST_TERMS>,
     ghost lawful: { LawfulLines width lines },
 }

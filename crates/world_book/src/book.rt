@@ -6,10 +6,13 @@ use marks::set::MarkSet;
 
 pub mod terms;
 
+// The most worlds that a book may have.
+pub const MOST_WORLDS: usize = 64;
+
 // Its worlds, all of its width.
 #[derive(Drop)]
 pub struct WorldBook {
     width: u16,
-    worlds: Table<MarkSet, 64>,
+    worlds: Table<MarkSet, MOST_WORLDS>,
     ghost widths: { AllOfWidth width worlds },
 }

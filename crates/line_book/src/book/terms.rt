@@ -14,7 +14,7 @@ use books::table::Table;
 use books::whole::give_all;
 use books::width::check_set_width;
 use lines::check::check_records;
-use lines::term::TermLine;
+use lines::term::{MOST_TERMS, TermLine};
 use marks::refusal::Refusal;
 use marks::set::MarkSet;
 use marks::width::check_width;
@@ -35,7 +35,7 @@ impl LineBook {
     pub fn fill(&mut self, lines: &[TermLine]) -> Result<(), Refusal>
         ensures { Test (AllLawful (LawfulTerm self.old.width) 512 lines.now → ⊥) (Refuses result 8 × SameBook self.old self.new) (Gives result (λ _. IsLineBook self.new self.old.width lines.now)) }
     {
-        check_records(lines, 512, self.width)?;
+        check_records(lines, MOST_TERMS, self.width)?;
         self.lines.fill(lines);
         Ok(())
     }

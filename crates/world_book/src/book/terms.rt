@@ -6,7 +6,7 @@ ghost use Rattle.world_book.specs.WorldBooks.{meaning, IsWorldBook, SameBook, wo
 ghost use Rattle.world_book.specs.Worlds.{AllOfWidth};
 ghost use Rattle.world_book.specs.Common.{world_lawful};
 
-use super::WorldBook;
+use super::{MOST_WORLDS, WorldBook};
 use crate::worlds::{all_of_width, common_marks};
 use books::book::TermBook;
 use books::table::Table;
@@ -33,7 +33,7 @@ impl WorldBook {
         if !all_of_width(worlds, self.width) {
             return Err(Refusal::Width);
         }
-        if worlds.len() > 64 {
+        if worlds.len() > MOST_WORLDS {
             return Err(Refusal::Record);
         }
         self.worlds.fill(worlds);
