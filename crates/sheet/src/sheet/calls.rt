@@ -1,5 +1,5 @@
 // The calls that make a run: enter, strike, settle and ask.
-ghost use Rattle.std.specs.Prelude.{List};
+ghost use Rattle.std.specs.Prelude.{List, []};
 ghost use Rattle.marks.specs.MarkSets.{BadWidth};
 ghost use Rattle.marks.specs.Refusals.{Refuses, Gives, Test};
 ghost use Rattle.readings.specs.Books.{Book};
@@ -70,12 +70,19 @@ impl Sheet {
         }
     }
 
+    // Performs the call without lines, by a book that says nothing: an enter, a strike and an ask look at neither.
+    fn perform_alone(&mut self, call: Call) -> Result<Reply, Refusal>
+        ensures { (B : Book) × Step B [] self.old call result self.new }
+    {
+        let book = BareBook::new(self.facts.width())?;
+        self.perform(call, &[], &book)
+    }
+
     // Makes the mark stand as a fact; the sheet is then unsettled.
     pub fn enter(&mut self, m: u16) -> Result<(), Refusal>
         ensures { (B : Book) (lines : List Fare) → Step B lines self.old (Enter m) (replied (λ _. Done) result) self.new }
     {
-        let book = BareBook::new(self.facts.width())?;
-        self.perform(Call::Enter(m), &[], &book)?;
+        self.perform_alone(Call::Enter(m))?;
         Ok(())
     }
 
@@ -83,8 +90,7 @@ impl Sheet {
     pub fn strike(&mut self, m: u16) -> Result<(), Refusal>
         ensures { (B : Book) (lines : List Fare) → Step B lines self.old (Strike m) (replied (λ _. Done) result) self.new }
     {
-        let book = BareBook::new(self.facts.width())?;
-        self.perform(Call::Strike(m), &[], &book)?;
+        self.perform_alone(Call::Strike(m))?;
         Ok(())
     }
 
@@ -107,10 +113,9 @@ impl Sheet {
     pub fn ask(&self, m: u16) -> Result<Answer, Refusal>
         ensures { (B : Book) (lines : List Fare) → Step B lines self.now (Ask m) (replied Told result) self.now }
     {
-        let book = BareBook::new(self.facts.width())?;
         // asking changes nothing, and this copy shows it
         let mut sheet = *self;
-        match sheet.perform(Call::Ask(m), &[], &book)? {
+        match sheet.perform_alone(Call::Ask(m))? {
             Reply::Told(answer) => Ok(answer),
             _ => unreachable(),
         }
