@@ -13,6 +13,7 @@ use Rattle.lines.specs.Lawful.{LawfulList, LawfulFare, LawfulTerm}
 use Rattle.lines.specs.Records.{used, the_kind}
 use Rattle.tariff.specs.Numbers.{Bytes, encode}
 use Rattle.tariff.specs.Writings.{Written}
+use Rattle.tariff.proofs.Overlays.{written_first}
 use Rattle.tariff_format.specs.declared.fault.FileFault.{FileFault}
 use Rattle.tariff_format.specs.Answers.{Taken, FileAnswer}
 use Rattle.tariff_format.specs.Encoding.{Tariff, LawfulTariff, list_bytes, fare_bytes, head_bytes, term_bytes, file_bytes}
@@ -92,10 +93,6 @@ file_one t u ht hu e =
     let both : ◌≡◌ {A = Result (Tariff × ℕ) FileFault} (Ok (tidy_tariff t, length (file_bytes t))) (Ok (tidy_tariff u, length (file_bytes u))) = sym one ∙ ap (file_at 1024 512) e ∙ two in
     let pair : ◌≡◌ {A = Tariff × ℕ} (tidy_tariff t, length (file_bytes t)) (tidy_tariff u, length (file_bytes u)) = cc in
     told_tariff t u ht hu (ap (λ (x : Tariff × ℕ). x.0) pair)
-
--- what stands at the start of the bytes that were written there
-pub written_first : (out bs after : List ℕ) (n : ℕ) → Written out 0 bs after n → take n after ≡ bs
-written_first out bs after n w = ap (take n) w.bytes ∙ take_at bs (drop (0 + length bs) out) n (omega (arith, w.place))
 
 -- what was written is read
 pub written_read : (m n : ℕ) (t : Tariff) (out after : List ℕ) (k : ℕ) → Proper t → length t.fares ≤ m → length t.terms ≤ n → Written out 0 (file_bytes t) after k → file_at m n (take k after) ≡ Ok (tidy_tariff t, k)
