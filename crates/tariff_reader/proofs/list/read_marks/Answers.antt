@@ -1,9 +1,7 @@
-use Rattle.std.proofs.Common.{ℕ, ◌+◌, ◌-◌, List, length, Result, sym, refl, ap, ◌∙◌, arith}
-use Rattle.std.proofs.lemmas.Result.{err_from_is_err_and}
+use Rattle.std.proofs.Common.{ℕ, ◌+◌, ◌-◌, List, length, Result, ap, ◌∙◌, arith}
 use Rattle.tariff.specs.declared.fault.NumberFault.{NumberFault}
 use Rattle.tariff.specs.Readings.{text, number_at}
-use Rattle.tariff.proofs.Runs.{many_stop}
-use Rattle.tariff_reader.proofs.Filling.{fill_none, fill_more, fill_all}
+use Rattle.tariff_reader.proofs.Filling.{fill_more}
 use Rattle.tariff_reader.proofs.list.read_marks.Goals as goal
 
 -- a mark of a text, not below least

@@ -1,15 +1,13 @@
-use Rattle.std.proofs.Common.{◌≡◌, ℕ, zero, suc, ◌+◌, ◌-◌, List, ◌∷◌, length, IfOk, Ok, Err, Result, sym, refl, ap, ◌∙◌, subst, arith}
-use Rattle.std.proofs.lemmas.Result.{err_from_is_err_and}
+use Rattle.std.proofs.Common.{◌≡◌, ℕ, zero, suc, ◌+◌, List, ◌∷◌, length, IfOk, Ok, Err, Result, refl, ap, ◌∙◌, subst, arith}
 use Rattle.tariff.specs.Readings.{text, and_then, mapped, many}
-use Rattle.tariff.proofs.Runs.{many_more, many_stop, many_all}
-use Rattle.tariff_format.specs.Lines.{lines_at}
+use Rattle.tariff.proofs.Runs.{many_more, many_all}
 use Rattle.tariff_reader.specs.Answers.{Reads}
 use Rattle.tariff_reader.proofs.section.skim.Goals as goal
 
 module _ {A E : Type 0} where
   ends : (r : Result (A × ℕ) E) (q : ℕ) → mapped (λ _. tt {0}) r ≡ Ok (tt, q) → (x : A) × (r ≡ Ok (x, q))
-  ends (Ok x) q h = (x.0, let e : ◌≡◌ {A = Unit {0} × ℕ} (tt, x.1) (tt, q) = cc in ap (λ (z : Unit {0} × ℕ). Ok (x.0, z.1)) e)
-  ends (Err f) q h = let no : ◌≡◌ {A = ℕ} 0 1 = cc in absurd (omega arith)
+  ends (Ok x) q h = let e : ◌≡◌ {A = Unit {0} × ℕ} (tt, x.1) (tt, q) = cc in (x.0, ap (λ (z : Unit {0} × ℕ). Ok (x.0, z.1)) e)
+  ends (Err f) q h = absurd (cc)
 
 -- as many are read as were asked for
 abbrev Counted : {A E : Type 0} → ℕ → Result (List A × ℕ) E → Type 0
