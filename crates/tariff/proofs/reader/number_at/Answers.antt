@@ -1,4 +1,4 @@
-use Rattle.std.proofs.Common.{◌<◌, sym, ap, ◌∙◌, subst}
+use Rattle.std.proofs.Common.{sym, ap, ◌∙◌, subst}
 use Rattle.tariff.proofs.Decoding.{bytes_fit}
 use Rattle.std.proofs.lemmas.List.{take_rest}
 use Rattle.tariff.specs.Readings.{decode, tested}
