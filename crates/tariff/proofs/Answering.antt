@@ -1,7 +1,7 @@
 -- A reading of a number gives what is right to answer, and nothing else is right.
 use Rattle.std.proofs.Common.{◌≡◌, ℕ, ◌+◌, ◌-◌, ◌*◌, ◌%◌, ◌<◌, ◌≤◌, eqb, ltb, ◌⊎◌, List, [], ◌∷◌, ◌++◌, length, drop, Ok, Err, Result, sym, refl, ap, ◌∙◌, inl, inr, ⊎_elim, arith}
 use Rattle.std.proofs.ByRecursion.{All-drop}
-use Rattle.std.proofs.lemmas.Bool.{cond_both, cond-true, cond-false, ltb-true, ltb-false, eqb-true, cases_lt}
+use Rattle.std.proofs.lemmas.Bool.{cond_both, cond-true, cond-false, ltb-false, eqb-true, cases_lt}
 use Rattle.std.proofs.lemmas.Bool.Decides.{nat_tests}
 use Rattle.marks.specs.declared.refusal.Refusal.{Refusal}
 use Rattle.marks.specs.declared.refusal.Refusal.TheVariants.{BytesEnd, Malformed, OutsideLimit, NotAscending, FewRecords, BytesRemain, Width, Record, MarkTooHigh, FactStands, NoSuchFact, NotSettled, OutputShort}
@@ -9,6 +9,7 @@ use Rattle.tariff.specs.declared.fault.NumberFault.{NumberFault}
 use Rattle.tariff.specs.Numbers.{Bytes, spelled, Finished, encode, Begins}
 use Rattle.tariff.specs.Readings.{second, third, decode, fault, tested, number_at}
 use Rattle.tariff.specs.Faults.{Unfinished, TooLong, ShorterForm, Misspelled, Outside, Within, Fails, NumberAnswer}
+use Rattle.tariff.proofs.Tests.{cond_lt}
 use Rattle.tariff.proofs.Decoding.{decode_encode, encode_decode}
 
 module _ (low high least : ℕ) where
@@ -64,11 +65,10 @@ module _ (low high least : ℕ) where
   module _ (bs : List ℕ) (p : ℕ) where
     passed : (n k : ℕ) → Begins n (drop p bs) → k ≡ length (encode n) → NumberAnswer low high least bs p (tested low high least p (Ok (n, k)))
     passed n k b e =
-        cond_both (ltb n low) _ _ (NumberAnswer low high least bs p) (λ f. record { test = (n, b, inl (ltb-true n low f)); start = refl }) (λ f.
-        cond_both (ltb high n) _ _ (NumberAnswer low high least bs p) (λ g. record { test = (n, b, inr (ltb-true high n g)); start = refl }) (λ g.
-        let limit : Within low high n = (ltb-false n low f, ltb-false high n g) in
-        cond_both (ltb n least) _ _ (NumberAnswer low high least bs p) (λ h. record { test = (n, b, (limit, ltb-true n least h)); start = refl }) (λ h.
-        record { stands = b; limit = limit; ascent = ltb-false n least h; behind = ap (λ m. p + m) e })))
+        cond_lt n low _ _ (NumberAnswer low high least bs p) (λ below. record { test = (n, b, inl below); start = refl }) (λ from.
+        cond_lt high n _ _ (NumberAnswer low high least bs p) (λ above. record { test = (n, b, inr above); start = refl }) (λ to.
+        cond_lt n least _ _ (NumberAnswer low high least bs p) (λ falls. record { test = (n, b, ((from, to), falls)); start = refl }) (λ ascent.
+        record { stands = b; limit = (from, to); ascent = ascent; behind = ap (λ m. p + m) e })))
 
     by_front : (r : Result (ℕ × ℕ) Refusal) → Decoded (drop p bs) r → NumberAnswer low high least bs p (tested low high least p r)
     by_front (Ok x) d = passed x.0 x.1 d.0 d.1
@@ -131,31 +131,31 @@ module _ (low high least : ℕ) where
   begins_decode n bs b = ap decode b.front ∙ decode_encode n b.rest b.small
 
   module _ (bs : List ℕ) (p : ℕ) where
-    only_fault : (why : Refusal) (byte : ℕ) → Fails low high least (drop p bs) why → byte ≡ p → number_at low high least bs p ≡ Err (fault why byte)
-    only_fault BytesEnd byte h e = ap (tested low high least p) (unfinished_ends (drop p bs) h) ∙ ap (λ q. Err (fault BytesEnd q)) (sym e)
-    only_fault Malformed byte h e = ap (tested low high least p) (malformed_is (drop p bs) h) ∙ ap (λ q. Err (fault Malformed q)) (sym e)
-    only_fault OutsideLimit byte h e = ap (tested low high least p) (begins_decode h.0 (drop p bs) h.1) ∙ outside h.0 (length (encode h.0)) h.2 ∙ ap (λ q. Err (fault OutsideLimit q)) (sym e)
+    only_fault : (why : Refusal) → Fails low high least (drop p bs) why → number_at low high least bs p ≡ Err (fault why p)
+    only_fault BytesEnd h = ap (tested low high least p) (unfinished_ends (drop p bs) h)
+    only_fault Malformed h = ap (tested low high least p) (malformed_is (drop p bs) h)
+    only_fault OutsideLimit h = ap (tested low high least p) (begins_decode h.0 (drop p bs) h.1) ∙ outside h.0 (length (encode h.0)) h.2
       where
         outside : (n k : ℕ) → Outside low high n → tested low high least p (Ok (n, k)) ≡ Err (fault OutsideLimit p)
         outside n k (inl l) = grind (arith, nat_tests)
         outside n k (inr l) = grind (arith, nat_tests)
-    only_fault NotAscending byte h e = ap (tested low high least p) (begins_decode h.0 (drop p bs) h.1) ∙ falls h.0 (length (encode h.0)) h.2.0 h.2.1 ∙ ap (λ q. Err (fault NotAscending q)) (sym e)
+    only_fault NotAscending h = ap (tested low high least p) (begins_decode h.0 (drop p bs) h.1) ∙ falls h.0 (length (encode h.0)) h.2.0 h.2.1
       where
         falls : (n k : ℕ) → Within low high n → n < least → tested low high least p (Ok (n, k)) ≡ Err (fault NotAscending p)
         falls n k w l = grind (arith, nat_tests)
-    only_fault FewRecords byte h e = absurd h
-    only_fault BytesRemain byte h e = absurd h
-    only_fault Width byte h e = absurd h
-    only_fault Record byte h e = absurd h
-    only_fault MarkTooHigh byte h e = absurd h
-    only_fault FactStands byte h e = absurd h
-    only_fault NoSuchFact byte h e = absurd h
-    only_fault NotSettled byte h e = absurd h
-    only_fault OutputShort byte h e = absurd h
+    only_fault FewRecords h = absurd h
+    only_fault BytesRemain h = absurd h
+    only_fault Width h = absurd h
+    only_fault Record h = absurd h
+    only_fault MarkTooHigh h = absurd h
+    only_fault FactStands h = absurd h
+    only_fault NoSuchFact h = absurd h
+    only_fault NotSettled h = absurd h
+    only_fault OutputShort h = absurd h
 
     taken_is : (n k : ℕ) → Within low high n → least ≤ n → tested low high least p (Ok (n, k)) ≡ Ok (n, p + k)
     taken_is n k w l = grind (arith, nat_tests)
 
     pub only_answer : (r : Result (ℕ × ℕ) NumberFault) → NumberAnswer low high least bs p r → number_at low high least bs p ≡ r
     only_answer (Ok x) h = ap (tested low high least p) (begins_decode x.0 (drop p bs) h.stands) ∙ taken_is x.0 _ h.limit h.ascent ∙ ap (λ q. Ok (x.0, q)) (sym h.behind)
-    only_answer (Err f) h = only_fault f.refusal f.byte h.test h.start
+    only_answer (Err f) h = only_fault f.refusal h.test ∙ ap (λ q. Err (fault f.refusal q)) (sym h.start)

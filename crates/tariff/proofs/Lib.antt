@@ -1,3 +1,4 @@
+pub mod Tests
 pub mod Decoding
 pub mod Spelling
 pub mod Answering

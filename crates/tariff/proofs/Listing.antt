@@ -8,6 +8,7 @@ use Rattle.tariff.specs.Readings.{and_then, mapped, number_at}
 use Rattle.tariff.specs.Faults.{FaultIs, NumberAnswer}
 use Rattle.tariff.specs.Lists.{marks_at, Ascending, least_behind}
 use Rattle.tariff.proofs.Answering.{right_answer, only_answer}
+use Rattle.tariff.proofs.Runs.{mapped_same, mapped_twice}
 
 module _ (w : ℕ) (bs : List ℕ) where
   -- n marks that were read from p on, and the place behind them
@@ -84,11 +85,7 @@ module _ (w : ℕ) (bs : List ℕ) where
     pub marks_read : (ms : List ℕ) (n least p : ℕ) (rest : List ℕ) → length ms ≤ n → Ascending w least ms → drop p bs ≡ flat_map encode ms ++ rest → marks_at w bs n least p ≡ mapped (λ l. ms ++ l) (marks_at w bs (n - length ms) (least_behind least ms) (p + length (flat_map encode ms)))
     marks_read [] n least p rest few asc h =
         let e : n - 0 ≡ n = omega arith in
-        sym (same (marks_at w bs (n - 0) least (p + 0)) ∙ ap₂ (λ (i q : ℕ). marks_at w bs i least q) e (add-zero p))
-      where
-        same : (r : Result (List ℕ × ℕ) NumberFault) → mapped (λ l. [] ++ l) r ≡ r
-        same (Ok x) = refl
-        same (Err f) = refl
+        sym (mapped_same (marks_at w bs (n - 0) least (p + 0)) ∙ ap₂ (λ (i q : ℕ). marks_at w bs i least q) e (add-zero p))
     marks_read (m ∷ ms) zero least p rest few asc h = absurd (omega arith)
     marks_read (m ∷ ms) (suc n) least p rest few asc h =
         let l = asc.1 in
@@ -101,9 +98,5 @@ module _ (w : ℕ) (bs : List ℕ) where
         let far : q + length (flat_map encode ms) ≡ p + length (flat_map encode (m ∷ ms)) = omega (arith, length-append (encode m) (flat_map encode ms)) in
         ap (λ r. and_then r (λ x e. mapped (λ l. x ∷ l) (marks_at w bs n (x + 1) e))) one
         ∙ ap (mapped (λ l. m ∷ l)) more
-        ∙ twice (marks_at w bs (n - length ms) (least_behind (m + 1) ms) (q + length (flat_map encode ms)))
+        ∙ mapped_twice (λ l. m ∷ l) (λ l. ms ++ l) (marks_at w bs (n - length ms) (least_behind (m + 1) ms) (q + length (flat_map encode ms)))
         ∙ ap₂ (λ (i e : ℕ). mapped (λ l. m ∷ (ms ++ l)) (marks_at w bs i (least_behind (m + 1) ms) e)) left far
-      where
-        twice : (r : Result (List ℕ × ℕ) NumberFault) → mapped (λ l. m ∷ l) (mapped (λ l. ms ++ l) r) ≡ mapped (λ l. m ∷ (ms ++ l)) r
-        twice (Ok x) = refl
-        twice (Err f) = refl

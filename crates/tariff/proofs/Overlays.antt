@@ -29,3 +29,7 @@ written_more out p xs ys inside one two = record {
   bytes = two.bytes ∙ (λ i. overlay (one.bytes i) (one.place i) ys) ∙ overlay_more out p xs inside ys;
   place = omega (arith, one.place, two.place, length-append xs ys);
 }
+
+-- what stands at the start of the bytes that were written there
+pub written_first : (out bs after : List ℕ) (n : ℕ) → Written out 0 bs after n → take n after ≡ bs
+written_first out bs after n w = ap (take n) w.bytes ∙ take_at bs (drop (0 + length bs) out) n (omega (arith, w.place))

@@ -1,12 +1,12 @@
 -- The bytes of a number are its one shortest spelling.
-use Rattle.std.proofs.Common.{◌≡◌, ℕ, ◌+◌, ◌/◌, ◌%◌, ◌<◌, ◌≤◌, ltb, List, [], ◌∷◌, length, arith}
-use Rattle.std.proofs.lemmas.Bool.{cond_both, ltb-true, ltb-false}
+use Rattle.std.proofs.Common.{◌≡◌, ℕ, ◌+◌, ◌/◌, ◌%◌, ◌<◌, ◌≤◌, List, [], ◌∷◌, length, arith}
 use Rattle.tariff.specs.Numbers.{Bytes, spelled, Finished, Spells, encode}
+use Rattle.tariff.proofs.Tests.{cond_lt}
 
 -- what holds of the three forms holds of the bytes of a number
-by_form : (P : List ℕ → Type 0) (n : ℕ) → (n < 128 → P (n ∷ [])) → (128 ≤ n → n < 16384 → P ((n % 128 + 128) ∷ (n / 128) ∷ [])) → (16384 ≤ n → P ((n % 128 + 128) ∷ (n / 128 % 128 + 128) ∷ (n / 16384) ∷ [])) → P (encode n)
+pub by_form : (P : List ℕ → Type 0) (n : ℕ) → (n < 128 → P (n ∷ [])) → (128 ≤ n → n < 16384 → P ((n % 128 + 128) ∷ (n / 128) ∷ [])) → (16384 ≤ n → P ((n % 128 + 128) ∷ (n / 128 % 128 + 128) ∷ (n / 16384) ∷ [])) → P (encode n)
 by_form P n one two three =
-    cond_both (ltb n 128) (n ∷ []) _ P (λ e. one (ltb-true n 128 e)) (λ e. cond_both (ltb n 16384) ((n % 128 + 128) ∷ (n / 128) ∷ []) _ P (λ f. two (ltb-false n 128 e) (ltb-true n 16384 f)) (λ f. three (ltb-false n 16384 f)))
+    cond_lt n 128 (n ∷ []) _ P one (λ low. cond_lt n 16384 ((n % 128 + 128) ∷ (n / 128) ∷ []) _ P (two low) three)
 
 module _ (n : ℕ) (small : n ≤ 65535) where
   encode_finished : Finished (encode n)

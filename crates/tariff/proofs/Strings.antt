@@ -2,7 +2,7 @@
 use Rattle.std.proofs.Common.{◌≡◌, ℕ, suc, ◌+◌, ◌-◌, ◌≤◌, ltb, List, [], ◌∷◌, ◌++◌, length, drop, Ok, Err, Result, sym, refl, ap, ◌∙◌, ap₂, append_assoc, arith, length-append}
 use Rattle.std.specs.List.{flat_map}
 use Rattle.std.proofs.lemmas.List.{append-nil, drop_all}
-use Rattle.std.proofs.lemmas.Bool.{cond_both, cond-true, cond-false, ltb-true, ltb-false, lt-ltb, le-ltb}
+use Rattle.std.proofs.lemmas.Bool.{cond-true, cond-false, lt-ltb, le-ltb}
 use Rattle.marks.specs.Sets.{Marks, no_marks, size}
 use Rattle.marks.proofs.Sizes.{size_le}
 use Rattle.tariff.specs.declared.fault.NumberFault.{NumberFault}
@@ -11,6 +11,7 @@ use Rattle.tariff.specs.Readings.{and_then, mapped, number_at}
 use Rattle.tariff.specs.Faults.{NumberIs, NumberAnswer}
 use Rattle.tariff.specs.Facts.{members, facts_bytes, adding, ended, facts_at, Begun, FactsFault, at_count, at_mark, left_over, FactsAnswer}
 use Rattle.tariff.specs.Lists.{marks_at, Ascending, least_behind}
+use Rattle.tariff.proofs.Tests.{cond_lt}
 use Rattle.tariff.proofs.Answering.{right_answer, only_answer}
 use Rattle.tariff.proofs.Listing.{MarksAre, MarksAnswer, behind, right_marks, marks_read}
 use Rattle.tariff.proofs.Members.{length_members, members_ascending, adding_inside, none_inside, adding_members, members_adding}
@@ -35,10 +36,9 @@ module _ (w : ℕ) (bs : List ℕ) where
       by_end : (ms : List ℕ) (q : ℕ) → MarksAre w bs k 0 p ms q → FactsAnswer w bs (ended bs (adding no_marks ms) q)
       by_end ms q g =
           let start = begun ms (drop q bs) q (let e = g.many in omega arith) g.ascending g.front g.place in
-          cond_both (ltb q (length bs)) _ _ (FactsAnswer w bs)
-          (λ e. left_over k ms q start g.many (ltb-true q (length bs) e) refl)
-          (λ e.
-          let past : length bs ≤ q = ltb-false q (length bs) e in
+          cond_lt q (length bs) _ _ (FactsAnswer w bs)
+          (λ more. left_over k ms q start g.many more refl)
+          (λ past.
           let whole : bs ≡ encode k ++ flat_map encode ms = after_count ∙ ap (λ l. encode k ++ l) (g.front ∙ ap (λ l. flat_map encode ms ++ l) (drop_all q bs past) ∙ append-nil (flat_map encode ms)) in
           let list = members_adding w ms g.ascending in
           let count : k ≡ size w (adding no_marks ms) = sym g.many ∙ ap length (sym list) ∙ length_members w (adding no_marks ms) in (

@@ -79,8 +79,13 @@ pub fn read_facts(bytes: &[u8], facts: &mut MarkSet) -> Result<(), NumberFault>
     ensures value { filled result (marks_of facts.new) (length bytes.now) ≡ facts_at facts.old.width bytes.now }
     ensures says { FactsRead bytes.now facts.old facts.new result }
 {
-    *facts = facts_of(bytes, facts)?;
-    Ok(())
+    match facts_of(bytes, facts) {
+        Ok(read) => {
+            *facts = read;
+            Ok(())
+        }
+        Err(fault) => Err(fault),
+    }
 }
 
 // How many bytes the marks of the set take.

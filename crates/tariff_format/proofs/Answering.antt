@@ -2,7 +2,7 @@
 use Rattle.std.proofs.Common.{◌≡◌, ℕ, ◌+◌, ◌<◌, ◌≤◌, ltb, List, [], ◌++◌, length, drop, Ok, Err, Result, sym, refl, ap, ◌∙◌, subst, append_assoc, arith, length-append, length-drop}
 use Rattle.std.specs.List.{flat_map, AllByRecursion}
 use Rattle.std.proofs.lemmas.List.{append-nil, drop_all}
-use Rattle.std.proofs.lemmas.Bool.{cond_both, cond-true, cond-false, ltb-true, ltb-false, lt-ltb, le-ltb}
+use Rattle.std.proofs.lemmas.Bool.{cond-true, cond-false, lt-ltb, le-ltb}
 use Rattle.lines.specs.Lawful.{LawfulFare, LawfulTerm}
 use Rattle.marks.specs.declared.refusal.Refusal.{Refusal}
 use Rattle.marks.specs.declared.refusal.Refusal.TheVariants.{BytesRemain}
@@ -10,6 +10,7 @@ use Rattle.tariff.specs.declared.fault.NumberFault.{NumberFault}
 use Rattle.tariff.specs.Facts.{ended}
 use Rattle.tariff.specs.Numbers.{Bytes}
 use Rattle.tariff.specs.Readings.{and_then, fault}
+use Rattle.tariff.proofs.Tests.{cond_lt}
 use Rattle.tariff_format.specs.declared.counts.Counts.{Counts}
 use Rattle.tariff_format.specs.declared.fault.FileFault.{FileFault}
 use Rattle.tariff_format.specs.declared.fault.FileFault.TheVariants.{Number, Line}
@@ -112,12 +113,12 @@ module _ (m n : ℕ) (bs : List ℕ) (bytes : Bytes bs) where
 
       by_end : FileAnswer m n bs (close t q)
       by_end =
-          cond_both (ltb q (length bs)) _ _ (λ r. FileAnswer m n bs (outside_lines r))
-          (λ e.
-          let some : 0 < length (drop q bs) = omega (arith, ltb-true q (length bs) e, length-drop q bs) in
+          cond_lt q (length bs) _ _ (λ r. FileAnswer m n bs (outside_lines r))
+          (λ more.
+          let some : 0 < length (drop q bs) = omega (arith, length-drop q bs) in
           left_over t (drop q bs) taken file_front some (ap (λ k. Number (fault BytesRemain k)) file_far))
-          (λ e.
-          let all : bs ≡ file_bytes t = file_front ∙ ap (λ l. file_bytes t ++ l) (drop_all q bs (ltb-false q (length bs) e)) ∙ append-nil (file_bytes t) in
+          (λ past.
+          let all : bs ≡ file_bytes t = file_front ∙ ap (λ l. file_bytes t ++ l) (drop_all q bs past) ∙ append-nil (file_bytes t) in
           (record { taken = taken; bytes = all }, file_far ∙ ap length (sym all)))
 
     by_lines : (r : Result (Tariff × ℕ) FileFault) → Says bs lines_bytes (lines_ok bs bytes h room.right) (lines_stops bs bytes h room.right) p r → FileAnswer m n bs (and_then r close)

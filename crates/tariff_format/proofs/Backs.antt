@@ -1,9 +1,8 @@
 -- The file of a tariff is bytes, and reads back as that tariff.
-use Rattle.std.proofs.Common.{◌≡◌, ℕ, ◌+◌, ◌/◌, ◌%◌, ◌<◌, ◌≤◌, ltb, List, [], ◌∷◌, ◌++◌, length, take, drop, IfSome, Ok, Result, sym, refl, ap, ◌∙◌, subst, arith}
+use Rattle.std.proofs.Common.{◌≡◌, ℕ, ◌<◌, ◌≤◌, List, [], ◌∷◌, ◌++◌, length, take, IfSome, Ok, Result, sym, refl, ap, ◌∙◌, subst, arith}
 use Rattle.std.specs.List.{flat_map, AllByRecursion}
 use Rattle.std.proofs.ByRecursion.{All-append}
-use Rattle.std.proofs.lemmas.List.{length-map, take_at}
-use Rattle.std.proofs.lemmas.Bool.{cond_both, ltb-true}
+use Rattle.std.proofs.lemmas.List.{length-map}
 use Rattle.lines.specs.declared.fare.FareLine.{FareLine}
 use Rattle.lines.specs.declared.list.MarkList.{MarkList}
 use Rattle.lines.specs.declared.term.Kind.{Kind}
@@ -13,6 +12,8 @@ use Rattle.lines.specs.Lawful.{LawfulList, LawfulFare, LawfulTerm}
 use Rattle.lines.specs.Records.{used, the_kind}
 use Rattle.tariff.specs.Numbers.{Bytes, encode}
 use Rattle.tariff.specs.Writings.{Written}
+use Rattle.tariff.proofs.Overlays.{written_first}
+use Rattle.tariff.proofs.Spelling.{by_form}
 use Rattle.tariff_format.specs.declared.fault.FileFault.{FileFault}
 use Rattle.tariff_format.specs.Answers.{Taken, FileAnswer}
 use Rattle.tariff_format.specs.Encoding.{Tariff, LawfulTariff, list_bytes, fare_bytes, head_bytes, term_bytes, file_bytes}
@@ -24,9 +25,7 @@ use Rattle.tariff_format.proofs.Answering.{right_file, only_file}
 use Rattle.tariff_format.proofs.Tidying.{tidied_tariff, told_tariff}
 
 pub encode_bytes : (n : ℕ) → n ≤ 65535 → Bytes (encode n)
-encode_bytes n small =
-    cond_both (ltb n 128) (n ∷ []) _ Bytes (λ e. let l = ltb-true n 128 e in (omega arith, tt)) (λ _.
-    cond_both (ltb n 16384) ((n % 128 + 128) ∷ (n / 128) ∷ []) ((n % 128 + 128) ∷ (n / 128 % 128 + 128) ∷ (n / 16384) ∷ []) Bytes (λ e. let l = ltb-true n 16384 e in (omega arith, (omega arith, tt))) (λ _. (omega arith, (omega arith, (omega arith, tt)))))
+encode_bytes n small = by_form Bytes n (λ h. (omega arith, tt)) (λ h k. (omega arith, (omega arith, tt))) (λ h. (omega arith, (omega arith, (omega arith, tt))))
 
 joined_bytes : {X : Type 0} (enc : X → List ℕ) (P : X → Type 0) → ((x : X) → P x → Bytes (enc x)) → (xs : List X) → AllByRecursion P xs → Bytes (flat_map enc xs)
 joined_bytes enc P each [] h = tt
@@ -92,10 +91,6 @@ file_one t u ht hu e =
     let both : ◌≡◌ {A = Result (Tariff × ℕ) FileFault} (Ok (tidy_tariff t, length (file_bytes t))) (Ok (tidy_tariff u, length (file_bytes u))) = sym one ∙ ap (file_at 1024 512) e ∙ two in
     let pair : ◌≡◌ {A = Tariff × ℕ} (tidy_tariff t, length (file_bytes t)) (tidy_tariff u, length (file_bytes u)) = cc in
     told_tariff t u ht hu (ap (λ (x : Tariff × ℕ). x.0) pair)
-
--- what stands at the start of the bytes that were written there
-pub written_first : (out bs after : List ℕ) (n : ℕ) → Written out 0 bs after n → take n after ≡ bs
-written_first out bs after n w = ap (take n) w.bytes ∙ take_at bs (drop (0 + length bs) out) n (omega (arith, w.place))
 
 -- what was written is read
 pub written_read : (m n : ℕ) (t : Tariff) (out after : List ℕ) (k : ℕ) → Proper t → length t.fares ≤ m → length t.terms ≤ n → Written out 0 (file_bytes t) after k → file_at m n (take k after) ≡ Ok (tidy_tariff t, k)

@@ -6,6 +6,7 @@ use Rattle.std.proofs.lemmas.List.{append-nil, drop_at, drop-drop}
 use Rattle.marks.specs.declared.refusal.Refusal.{Refusal}
 use Rattle.tariff.specs.declared.fault.NumberFault.{NumberFault}
 use Rattle.tariff.specs.Readings.{and_then, mapped, many, fault}
+use Rattle.tariff.proofs.Runs.{mapped_same, mapped_twice}
 use Rattle.tariff_format.specs.Answers.{FailsAt}
 use Rattle.tariff_format.specs.Places.{Limits}
 
@@ -251,11 +252,7 @@ module _ (bs : List ℕ) where
 
     -- lines that stand in the bytes are read, and the rest decides
     rows_read : (xs : List A) (d i p : ℕ) (rest : List ℕ) → AllByRecursion ok xs → drop p bs ≡ flat_map enc xs ++ rest → rows (length xs + d) i p ≡ mapped (λ l. xs ++ l) (rows d (i + length xs) (p + length (flat_map enc xs)))
-    rows_read [] d i p rest lawful h = sym (same (rows d (i + 0) (p + 0)) ∙ (λ k. rows d (add-zero i k) (add-zero p k)) ∙ ap (λ n. rows n i p) (omega arith))
-      where
-        same : (r : Result (List A × ℕ) E) → mapped (λ l. [] ++ l) r ≡ r
-        same (Ok x) = refl
-        same (Err f) = refl
+    rows_read [] d i p rest lawful h = sym (mapped_same (rows d (i + 0) (p + 0)) ∙ (λ k. rows d (add-zero i k) (add-zero p k)) ∙ ap (λ n. rows n i p) (omega arith))
     rows_read (x ∷ xs) d i p rest lawful h =
         let split : drop p bs ≡ enc x ++ (flat_map enc xs ++ rest) = h ∙ append_assoc (enc x) (flat_map enc xs) rest in
         let q : ℕ = p + length (enc x) in
@@ -266,12 +263,8 @@ module _ (bs : List ℕ) where
         ap (λ n. rows n i p) count
         ∙ ap (λ r. and_then r (λ a e. mapped (λ l. a ∷ l) (rows (length xs + d) (i + 1) e))) one
         ∙ ap (mapped (λ l. x ∷ l)) more
-        ∙ twice (rows d ((i + 1) + length xs) (q + length (flat_map enc xs)))
+        ∙ mapped_twice (λ l. x ∷ l) (λ l. xs ++ l) (rows d ((i + 1) + length xs) (q + length (flat_map enc xs)))
         ∙ (λ k. mapped (λ l. x ∷ (xs ++ l)) (rows d (index k) (far p q (enc x) (flat_map enc xs) refl k)))
-      where
-        twice : (r : Result (List A × ℕ) E) → mapped (λ l. x ∷ l) (mapped (λ l. xs ++ l) r) ≡ mapped (λ l. x ∷ (xs ++ l)) r
-        twice (Ok y) = refl
-        twice (Err f) = refl
 
     pub rows_exact : (n : ℕ) → Exact (rows n 0) (flat_map enc) (rows_ok n) (EachStop enc ok stops n 0)
     rows_exact n = record {

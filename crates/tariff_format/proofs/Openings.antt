@@ -1,13 +1,14 @@
 -- What a file opens with is read exactly: the width, the two counts, and the test of the caller's room.
 use Rattle.std.proofs.Common.{◌≡◌, ℕ, ◌+◌, ◌<◌, ◌≤◌, ltb, List, [], ◌++◌, length, drop, Ok, Err, Result, sym, refl, ap, ◌∙◌, subst, append_assoc, arith, length-append}
 use Rattle.std.proofs.lemmas.List.{drop_at}
-use Rattle.std.proofs.lemmas.Bool.{cond_both, cond-true, cond-false, ltb-true, ltb-false, lt-ltb, le-ltb}
+use Rattle.std.proofs.lemmas.Bool.{cond-true, cond-false, lt-ltb, le-ltb}
 use Rattle.marks.specs.declared.refusal.Refusal.{Refusal}
 use Rattle.marks.specs.declared.refusal.Refusal.TheVariants.{FewRecords}
 use Rattle.tariff.specs.declared.fault.NumberFault.{NumberFault}
 use Rattle.tariff.specs.Faults.{Within}
 use Rattle.tariff.specs.Numbers.{Bytes, encode}
 use Rattle.tariff.specs.Readings.{and_then, fault, number_at}
+use Rattle.tariff.proofs.Tests.{cond_lt}
 use Rattle.tariff_format.specs.declared.counts.Counts.{Counts}
 use Rattle.tariff_format.specs.declared.fault.FileFault.{FileFault}
 use Rattle.tariff_format.specs.declared.fault.FileFault.TheVariants.{Number}
@@ -55,11 +56,11 @@ module _ (m n : ℕ) (bs : List ℕ) (bytes : Bytes bs) where
   by_room : (w a f b t q : ℕ) → RightCounts (counts w f t) → a ≡ length (encode w) → b ≡ length (encode w ++ encode f) → q ≡ length (opening_bytes (counts w f t)) → bs ≡ opening_bytes (counts w f t) ++ drop q bs → OpeningSays (room_for m n a b (counts w f t) q)
   by_room w a f b t q right ea eb eq front =
       let opened : Opened bs (counts w f t) = record { right = right; rest = drop q bs; front = front } in
-      cond_both (ltb m f) _ _ OpeningSays
-      (λ l. few_fares (counts w f t) opened (ltb-true m f l) (ap (λ k. Number (fault FewRecords k)) ea)) (λ l.
-      cond_both (ltb n t) _ _ OpeningSays
-      (λ k. few_terms (counts w f t) opened (ltb-false m f l) (ltb-true n t k) (ap (λ k. Number (fault FewRecords k)) eb))
-      (λ k. (record { right = right; fares = ltb-false m f l; terms = ltb-false n t k }, eq, front)))
+      cond_lt m f _ _ OpeningSays
+      (λ short. few_fares (counts w f t) opened short (ap (λ k. Number (fault FewRecords k)) ea)) (λ fares.
+      cond_lt n t _ _ OpeningSays
+      (λ short. few_terms (counts w f t) opened fares short (ap (λ k. Number (fault FewRecords k)) eb))
+      (λ terms. (record { right = right; fares = fares; terms = terms }, eq, front)))
 
   module _ (w a : ℕ) (one : Read bs encode (In 1 512) 0 w a) where
     module _ (f b : ℕ) (two : Read bs encode (In 0 1024) a f b) where

@@ -114,8 +114,8 @@ module _ {R : Type 0} (L W : R → Type 0) (tidy : R → R) (enc : R → List �
 
   pub all_told : (S : R → R → Type 0) → ((x y : R) → L x → W x → L y → W y → tidy x ≡ tidy y → S x y) → (xs ys : List R) → AllByRecursion L xs → AllByRecursion W xs → AllByRecursion L ys → AllByRecursion W ys → map tidy xs ≡ map tidy ys → AllZip S xs ys
   all_told S each [] [] lx wx ly wy e = tt
-  all_told S each [] (y ∷ ys) lx wx ly wy e = let no : ◌≡◌ {A = ℕ} 0 1 = cc in absurd (omega arith)
-  all_told S each (x ∷ xs) [] lx wx ly wy e = let no : ◌≡◌ {A = ℕ} 0 1 = cc in absurd (omega arith)
+  all_told S each [] (y ∷ ys) lx wx ly wy e = absurd (cc)
+  all_told S each (x ∷ xs) [] lx wx ly wy e = absurd (cc)
   all_told S each (x ∷ xs) (y ∷ ys) lx wx ly wy e =
       let here : tidy x ≡ tidy y = cc in
       let rest : map tidy xs ≡ map tidy ys = cc in

@@ -2,7 +2,7 @@
 use Rattle.std.proofs.Common.{◌≡◌, ℕ, ◌+◌, ◌-◌, ◌<◌, ◌≤◌, List, [], ◌∷◌, ◌++◌, length, take, set, Ok, Err, Result, sym, refl, ap, ◌∙◌, append_assoc, append-nil, arith}
 use Rattle.std.proofs.lemmas.List.{take_more_set, take_all}
 use Rattle.tariff.specs.Readings.{mapped, many}
-use Rattle.tariff.proofs.Runs.{many_more, many_all}
+use Rattle.tariff.proofs.Runs.{mapped_same, many_more, many_all}
 
 module _ {A E S : Type 0} (read : S → ℕ → Result (A × ℕ) E) (next : A → S → S) (n i : ℕ) (s : S) (p : ℕ) (xs : List A) where
   -- a turn that reads x
@@ -17,8 +17,4 @@ module _ {A E S : Type 0} (read : S → ℕ → Result (A × ℕ) E) (next : A �
 
 -- the start
 pub fill_none : {A E S : Type 0} (read : S → ℕ → Result (A × ℕ) E) (next : A → S → S) (n : ℕ) (s : S) (p : ℕ) (xs : List A) → many read next n s p ≡ mapped (λ l. take 0 xs ++ l) (many read next (n - 0) s p)
-fill_none {A} {E} read next n s p xs = ap (λ k. many read next k s p) (omega arith) ∙ same (many read next (n - 0) s p)
-  where
-    same : (r : Result (List A × ℕ) E) → r ≡ mapped (λ l. [] ++ l) r
-    same (Ok x) = refl
-    same (Err e) = refl
+fill_none read next n s p xs = ap (λ k. many read next k s p) (omega arith) ∙ sym (mapped_same (many read next (n - 0) s p))

@@ -4,8 +4,8 @@ ghost use Rattle.tariff_format.specs.Files.{file_at};
 ghost use Rattle.tariff_reader.specs.Answers.{answer, fare_records, term_records, RightReading};
 
 use crate::file::{check, load};
-use lines::fare::FareLine;
-use lines::term::TermLine;
+use lines::fare::{FareLine, MOST_FARES};
+use lines::term::{MOST_TERMS, TermLine};
 use tariff_format::counts::Counts;
 use tariff_format::fault::FileFault;
 
@@ -30,5 +30,5 @@ pub fn check_tariff(bytes: &[u8]) -> Result<Counts, FileFault>
     ensures value { result ≡ answer (file_at 1024 512 bytes.now) }
     ensures says { RightReading 1024 512 bytes.now }
 {
-    check(bytes, 1024, 512)
+    check(bytes, MOST_FARES, MOST_TERMS)
 }

@@ -8,15 +8,10 @@ ghost use Rattle.tariff_writer.specs.Lent.{the_tariff};
 use crate::encode::Encode;
 use crate::lent::Tariff;
 use lines::check::check_records;
-use lines::fare::FareLine;
-use lines::term::TermLine;
+use lines::fare::{FareLine, MOST_FARES};
+use lines::term::{MOST_TERMS, TermLine};
 use marks::refusal::Refusal;
 use marks::width::check_width;
-
-// How many lines there may be.
-const MOST_FARES: usize = 1024;
-
-const MOST_TERMS: usize = 512;
 
 // How many lines there are, as the file counts them.
 fn count_of<L>(lines: &[L]) -> u16

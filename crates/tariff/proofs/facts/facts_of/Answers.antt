@@ -1,5 +1,5 @@
-use Rattle.std.proofs.Common.{◌≡◌, ℕ, ◌<◌, ◌≤◌, List, Result, sym, ap, ◌∙◌, subst, ⊎_elim}
-use Rattle.std.proofs.ByRecursion.{All-from_get_or}
+use Rattle.std.proofs.Common.{◌≡◌, ℕ, ◌≤◌, List, Result, sym, ap, ◌∙◌, subst, ⊎_elim}
+use Rattle.tariff.proofs.Decoding.{bytes_fit}
 use Rattle.std.proofs.lemmas.Result.{err_from_is_err_and}
 use Rattle.marks.specs.declared.set.MarkSet.{MarkSet}
 use Rattle.marks.specs.MarkSets.{BadWidth, IsSet}
@@ -25,14 +25,14 @@ pub returns-in_err-read_string-clause-says : goal.returns-in_err-read_string-cla
 returns-in_err-read_string-clause-says c =
     let out = err_from_is_err_and c.from_residual.result c.from_residual.ensures.1 in
     let wide = made_width c.in-Ok.set c.width.result c.args.old.now.width c.width.ensures c.in-Ok.ensures in
-    let bytes = All-from_get_or (λ b. b < 256) c.args.bytes.now 0 (λ i _. (c.type_inv.bytes i).fits) in
+    let bytes = bytes_fit c.args.bytes.now c.type_inv.bytes in
     let right = right_read c.args.old.now.width c.in-Ok.set.width c.args.bytes.now _ wide c.args.old.now.some bytes c.in_err-read_string.ensures.value in
     rw (out.1, out.2) right.1
 
 pub returns-clause-says : goal.returns-clause-says
 returns-clause-says c =
     let wide = made_width c.in-Ok.set c.width.result c.args.old.now.width c.width.ensures c.in-Ok.ensures in
-    let bytes = All-from_get_or (λ b. b < 256) c.args.bytes.now 0 (λ i _. (c.type_inv.bytes i).fits) in
+    let bytes = bytes_fit c.args.bytes.now c.type_inv.bytes in
     let here = c.in_ok-read_string.ensures in
     let right = right_read c.args.old.now.width c.in-Ok.set.width c.args.bytes.now _ wide c.args.old.now.some bytes here.value in
     right.1.0

@@ -1,5 +1,5 @@
-use Rattle.std.proofs.Common.{◌<◌, sym, ap, ◌∙◌, subst}
-use Rattle.std.proofs.ByRecursion.{All-from_get_or}
+use Rattle.std.proofs.Common.{sym, ap, ◌∙◌, subst}
+use Rattle.tariff.proofs.Decoding.{bytes_fit}
 use Rattle.std.proofs.lemmas.List.{take_rest}
 use Rattle.tariff.specs.Readings.{decode, tested}
 use Rattle.tariff.specs.Faults.{NumberAnswer}
@@ -12,5 +12,5 @@ returns-clause-says c =
     let p = c.args.place in
     let limits = c.args.limits in
     let value = c.judged.ensures.value ∙ ap (λ l. tested limits.low limits.high limits.least p (decode l)) (take_rest bs p) in
-    let bytes = All-from_get_or (λ b. b < 256) bs 0 (λ i _. (c.type_inv.bytes i).fits) in
+    let bytes = bytes_fit bs c.type_inv.bytes in
     subst (NumberAnswer limits.low limits.high limits.least bs p) (sym value) (right_answer limits.low limits.high limits.least bs p bytes)

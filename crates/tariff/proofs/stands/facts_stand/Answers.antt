@@ -1,13 +1,8 @@
-use Rattle.std.proofs.Common.{◌≡◌, ℕ, ◌+◌, List, length, take, drop, Ok, sym, ap, ◌∙◌, subst, arith}
-use Rattle.std.proofs.lemmas.List.{take_at}
+use Rattle.std.proofs.Common.{length, take, Ok, sym, ap, ◌∙◌, subst, arith}
 use Rattle.tariff.specs.Facts.{facts_bytes, FactsAnswer}
-use Rattle.tariff.specs.Writings.{Written}
+use Rattle.tariff.proofs.Overlays.{written_first}
 use Rattle.tariff.proofs.Strings.{right_facts, only_facts}
 use Rattle.tariff.proofs.stands.facts_stand.Goals as goal
-
--- what stands at the start of the bytes that were written there
-written_first : (out bs after : List ℕ) (n : ℕ) → Written out 0 bs after n → take n after ≡ bs
-written_first out bs after n w = ap (take n) w.bytes ∙ take_at bs (drop (0 + length bs) out) n (omega (arith, w.place))
 
 pub returns : goal.returns
 returns c = record {

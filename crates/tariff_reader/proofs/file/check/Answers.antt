@@ -1,5 +1,5 @@
-use Rattle.std.proofs.Common.{◌≡◌, ℕ, ◌<◌, List, length, Ok, sym, subst}
-use Rattle.std.proofs.ByRecursion.{All-from_get_or}
+use Rattle.std.proofs.Common.{◌≡◌, ℕ, List, length, Ok, sym, subst}
+use Rattle.tariff.proofs.Decoding.{bytes_fit}
 use Rattle.tariff.specs.Numbers.{Bytes}
 use Rattle.tariff_format.specs.Answers.{FileAnswer}
 use Rattle.tariff_format.specs.Files.{file_at}
@@ -16,8 +16,5 @@ right m n bs bytes = record {
   same = λ t q out after k e w. read_written m n bs t q out after k bytes e w;
 }
 
-pub returns : goal.returns
-returns c = record {
-  value = c.scan.ensures;
-  says = right c.args.fares c.args.terms c.args.bytes.now (All-from_get_or (λ b. b < 256) c.args.bytes.now 0 (λ i _. (c.type_inv.bytes i).fits));
-}
+pub returns-clause-says : goal.returns-clause-says
+returns-clause-says c = right c.args.fares c.args.terms c.args.bytes.now (bytes_fit c.args.bytes.now c.type_inv.bytes)

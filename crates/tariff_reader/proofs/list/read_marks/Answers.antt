@@ -1,28 +1,12 @@
-use Rattle.std.proofs.Common.{ℕ, ◌+◌, ◌-◌, List, length, Result, sym, refl, ap, ◌∙◌, arith}
-use Rattle.std.proofs.lemmas.Result.{err_from_is_err_and}
+use Rattle.std.proofs.Common.{ℕ, ◌+◌, ◌-◌, List, length, Result, ap, ◌∙◌, arith}
 use Rattle.tariff.specs.declared.fault.NumberFault.{NumberFault}
 use Rattle.tariff.specs.Readings.{text, number_at}
-use Rattle.tariff.proofs.Runs.{many_stop}
-use Rattle.tariff_reader.proofs.Filling.{fill_none, fill_more, fill_all}
+use Rattle.tariff_reader.proofs.Filling.{fill_more}
 use Rattle.tariff_reader.proofs.list.read_marks.Goals as goal
 
 -- a mark of a text, not below least
 abbrev mark : ℕ → List ℕ → ℕ → ℕ → Result (ℕ × ℕ) NumberFault
 mark w bs least p = number_at 0 (w - 1) least bs p
-
-pub loop-place-init : goal.loop-place-init
-loop-place-init c = (refl, fill_none (mark c.args.width (text c.args.reader.now)) (λ m _. m + 1) (length c.args.places.now) 0 c.args.reader.now.place c.args.places.now)
-
-pub returns-in_err-mark : goal.returns-in_err-mark
-returns-in_err-mark c =
-    let inv = c.loop-place.invariant in
-    let here = c.in_err-mark.ensures in
-    let out = err_from_is_err_and c.from_residual.result c.from_residual.ensures.1 in
-    let found = here.value ∙ ap (λ t. mark c.args.width t c.loop-place.least c.loop-place.reader.place) inv.0 in
-    rw (out.1, out.2) (record {
-      same = here.same ∙ inv.0;
-      value = sym (inv.1 ∙ many_stop _ (mark c.args.width (text c.args.reader.now)) (λ m _. m + 1) (length c.args.places.now) c.loop-place.place-index c.loop-place.least c.loop-place.reader.place _ (omega arith) found);
-    })
 
 pub loop-place-preserved : goal.loop-place-preserved
 loop-place-preserved c =
@@ -32,11 +16,3 @@ loop-place-preserved c =
       here.same ∙ inv.0,
       inv.1 ∙ fill_more (mark c.args.width (text c.args.reader.now)) (λ m _. m + 1) (length c.args.places.now) c.loop-place.place-index c.loop-place.least c.loop-place.reader.place c.loop-place.places c.in_ok-mark.mark c.step.new.self.place (omega arith) (omega arith) found,
     )
-
-pub returns : goal.returns
-returns c =
-    let inv = c.loop-place.invariant in
-    record {
-      same = inv.0;
-      value = sym (inv.1 ∙ fill_all (mark c.args.width (text c.args.reader.now)) (λ m _. m + 1) (length c.args.places.now) c.loop-place.place-index c.loop-place.least c.loop-place.reader.place c.loop-place.places (omega arith) (omega arith));
-    }

@@ -1,19 +1,13 @@
-use Rattle.std.proofs.Common.{◌≡◌, ℕ, zero, suc, ◌+◌, ◌-◌, List, ◌∷◌, length, IfOk, Ok, Err, Result, sym, refl, ap, ◌∙◌, subst, arith}
-use Rattle.std.proofs.lemmas.Result.{err_from_is_err_and}
+use Rattle.std.proofs.Common.{◌≡◌, ℕ, zero, suc, ◌+◌, List, ◌∷◌, length, IfOk, Ok, Err, Result, refl, ap, ◌∙◌, subst, arith}
 use Rattle.tariff.specs.Readings.{text, and_then, mapped, many}
-use Rattle.tariff.proofs.Runs.{many_more, many_stop, many_all}
-use Rattle.tariff_format.specs.Lines.{lines_at}
+use Rattle.tariff.proofs.Runs.{many_more, many_all}
 use Rattle.tariff_reader.specs.Answers.{Reads}
 use Rattle.tariff_reader.proofs.section.skim.Goals as goal
 
 module _ {A E : Type 0} where
   ends : (r : Result (A × ℕ) E) (q : ℕ) → mapped (λ _. tt {0}) r ≡ Ok (tt, q) → (x : A) × (r ≡ Ok (x, q))
-  ends (Ok x) q h = (x.0, let e : ◌≡◌ {A = Unit {0} × ℕ} (tt, x.1) (tt, q) = cc in ap (λ (z : Unit {0} × ℕ). Ok (x.0, z.1)) e)
-  ends (Err f) q h = let no : ◌≡◌ {A = ℕ} 0 1 = cc in absurd (omega arith)
-
-  stops : (r : Result (A × ℕ) E) (f : E) → mapped (λ _. tt {0}) r ≡ Err f → r ≡ Err f
-  stops (Ok x) f h = let no : ◌≡◌ {A = ℕ} 0 1 = cc in absurd (omega arith)
-  stops (Err g) f h = let e : g ≡ f = cc in ap Err e
+  ends (Ok x) q h = let e : ◌≡◌ {A = Unit {0} × ℕ} (tt, x.1) (tt, q) = cc in (x.0, ap (λ (z : Unit {0} × ℕ). Ok (x.0, z.1)) e)
+  ends (Err f) q h = absurd (cc)
 
 -- as many are read as were asked for
 abbrev Counted : {A E : Type 0} → ℕ → Result (List A × ℕ) E → Type 0
@@ -36,19 +30,6 @@ reads line_at_lem n i p q h =
     let e = ends (many line_at_lem (λ _ j. j + 1) n i p) q h in
     record { lines = e.0; count = subst (Counted n) e.1 (length_many line_at_lem (λ _ j. j + 1) n i p); value = e.1 }
 
-pub loop-index-init : goal.loop-index-init
-loop-index-init g c = let all : c.args.count - 0 ≡ c.args.count = omega arith in (refl, ap (λ n. mapped (λ _. tt {0}) (lines_at (g.L.Line.reading c.args.width (text c.args.reader.now)) n 0 c.args.reader.now.place)) (sym all))
-
-pub returns-in_err-read : goal.returns-in_err-read
-returns-in_err-read g c =
-    let line_at_lem = g.L.Line.reading c.args.width in
-    let here = c.in_err-read.ensures in
-    let inv = c.loop-index.invariant in
-    let out = err_from_is_err_and c.from_residual.result c.from_residual.ensures.1 in
-    let found = here.value ∙ ap (λ t. line_at_lem t c.loop-index.index c.loop-index.reader.place) inv.0 in
-    let stop = many_stop (λ _. tt {0}) (line_at_lem (text c.args.reader.now)) (λ _ i. i + 1) c.args.count c.loop-index.index c.loop-index.index c.loop-index.reader.place _ (omega arith) found in
-    rw (out.1, out.2) (record { same = here.same ∙ inv.0; value = stops _ _ (inv.1 ∙ stop) })
-
 pub loop-index-preserved : goal.loop-index-preserved
 loop-index-preserved g c =
     let line_at_lem = g.L.Line.reading c.args.width in
@@ -57,8 +38,8 @@ loop-index-preserved g c =
     let found = here.value ∙ ap (λ t. line_at_lem t c.loop-index.index c.loop-index.reader.place) inv.0 in
     (here.same ∙ inv.0, inv.1 ∙ many_more (λ _. tt {0}) (line_at_lem (text c.args.reader.now)) (λ _ i. i + 1) c.args.count c.loop-index.index c.loop-index.index c.loop-index.reader.place c.in_ok-read.field-0 c.read.new.reader.place (omega arith) found)
 
-pub returns : goal.returns
-returns g c =
+pub returns-clause-value : goal.returns-clause-value
+returns-clause-value g c =
     let inv = c.loop-index.invariant in
     let end = many_all (λ _. tt {0}) (g.L.Line.reading c.args.width (text c.args.reader.now)) (λ _ i. i + 1) c.args.count c.loop-index.index c.loop-index.index c.loop-index.reader.place (omega arith) in
-    record { same = inv.0; value = reads _ _ _ _ _ (inv.1 ∙ end) }
+    reads _ _ _ _ _ (inv.1 ∙ end)
