@@ -4,7 +4,7 @@ use mathlib.Core.Path.{fun_ext}
 use Rattle.std.proofs.lemmas.List.Folds.{list_any_more}
 use Rattle.std.proofs.Math.Bool.{or_comm}
 use Rattle.marks.specs.Joins.{joined}
-use Rattle.marks.specs.Sets.{Marks, ◌∈◌, ◌⊆◌, below, OfWidth, listed, with_mark, without_mark, ◌∪◌}
+use Rattle.marks.specs.Sets.{Marks, ◌∈◌, ◌⊆◌, below, OfWidth, listed, with_mark, without_mark, ◌∪◌, ◌∩◌}
 
 -- a test that came out true, and one that cannot
 pub holds : {b : Bool} → b ≡ true → T b
@@ -36,6 +36,13 @@ equal_within e m t = subst (λ (X : Marks). m ∈ X) e t
 -- a set of a width holds no mark from the width on
 pub past_width : (w : ℕ) (S : Marks) → OfWidth w S → (m : ℕ) → w ≤ m → S m ≡ false
 past_width w S inside m h = is_false (S m) (λ t. let l : m < w = ltb→lt m w (inside m t) in omega arith)
+
+pub part_inside : (w : ℕ) (S S' : Marks) → OfWidth w S → OfWidth w (S ∩ S')
+part_inside w S S' f m = go (S m) (f m)
+  where
+    go : (b : Bool) → (T b → m ∈ below w) → T (b && S' m) → m ∈ below w
+    go true f t = f tt
+    go false f t = absurd t
 
 pub with_inside : (w : ℕ) (S : Marks) (k : ℕ) → k < w → OfWidth w S → OfWidth w (with_mark S k)
 with_inside w S k l inside m = go (eqb m k) (eqb→eq m k)
