@@ -15,6 +15,6 @@ abbrev pub first_alone : BitOp
 first_alone = record {
   word = λ a b. bit_and a (2 ^ 64 - 1 - b);
   on = λ x y. x && not y;
-  bits = λ a b k _ h l. bit_of_and a (2 ^ 64 - 1 - b) k ∙ ap (λ (x : Bool). bit a k && x) (bit_not 64 b k h l);
+  bits = λ a b k _ h l. bit_of_and a (2 ^ 64 - 1 - b) k ∙ ap (λ (x : Bool). bit a k && x) (bit_not b k h l);
   none = refl;
 }

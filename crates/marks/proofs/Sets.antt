@@ -4,7 +4,7 @@ use mathlib.Core.Path.{fun_ext}
 use Rattle.std.proofs.lemmas.List.Folds.{list_any_more}
 use Rattle.std.proofs.Math.Bool.{or_comm}
 use Rattle.marks.specs.Joins.{joined}
-use Rattle.marks.specs.Sets.{Marks, ◌∈◌, ◌⊆◌, below, OfWidth, listed, with_mark, without_mark, ◌∪◌, ◌∩◌}
+use Rattle.marks.specs.Sets.{Marks, ◌∈◌, ◌⊆◌, below, OfWidth, listed, with_mark, without_mark, ◌∪◌}
 
 -- a test that came out true, and one that cannot
 pub holds : {b : Bool} → b ≡ true → T b
@@ -65,14 +65,6 @@ joined_inside on none w S S' f g m = go (S m) (S' m) (f m) (g m)
     go true b f g t = f tt
     go false true f g t = g tt
     go false false f g t = absurd (fails none t)
-
--- a set cut down by a test
-pub part_inside : (w : ℕ) (S S' : Marks) → OfWidth w S → OfWidth w (S ∩ S')
-part_inside w S S' f m = go (S m) (f m)
-  where
-    go : (b : Bool) → (T b → m ∈ below w) → T (b && S' m) → m ∈ below w
-    go true f t = f tt
-    go false f t = absurd t
 
 -- a mark that is there already
 pub with_there : (S : Marks) (k : ℕ) → k ∈ S → with_mark S k ≡ S

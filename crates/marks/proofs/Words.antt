@@ -12,7 +12,7 @@ use Rattle.std.specs.Array.{IsFromFnResult, IsFromFnResultFrom}
 use denote.Param.Members.{Mut, Called}
 use Rattle.marks.specs.Sets.{Marks, ◌∈◌, no_marks, with_mark, without_mark, size}
 use Rattle.marks.specs.Words.{bit, held}
-use Rattle.marks.proofs.Bits.{bit_zero, bit_of_and, bit_of_or, bit_pow, bit_not, bit_shr, bit_high, bits_eq, trailing_at, trailing_below, trailing_some}
+use Rattle.marks.proofs.Bits.{bit_zero, bit_of_and, bit_of_or, bit_pow, bit_not, bit_shr, bit_high, bits_eq, trailing_at, trailing_below}
 use Rattle.marks.proofs.Sets.{holds, is_true, is_false}
 use Rattle.marks.proofs.Sizes.{size_add, size_same, ones_size}
 
@@ -67,7 +67,7 @@ held_remove ws m k h =
     let w = get_or ws (m / 64) 0 in
     let v = 1 * 2 ^ (m % 64) % 2 ^ 64 in
     let flag : bit (2 ^ 64 - 1 - v) (k % 64) ≡ not (eqb (k % 64) (m % 64)) =
-    bit_not 64 v (k % 64) (omega arith) (omega arith)
+    bit_not v (k % 64) (omega arith) (omega arith)
     ∙ ap (λ (x : ℕ). not (bit x (k % 64))) (one_shl (m % 64) 64 (omega arith)) ∙ ap not (bit_pow (m % 64) (k % 64)) in
     held_set ws (m / 64) (bit_and w (2 ^ 64 - 1 - v)) k h
     ∙ ap (λ (b : Bool). cond (eqb (k / 64) (m / 64)) b (held ws k)) (bit_of_and w (2 ^ 64 - 1 - v) (k % 64) ∙ ap (λ (b : Bool). bit w (k % 64) && b) flag)
@@ -105,14 +105,6 @@ module _ {F : Type 0} {g : Mut F (ℕ × Unit {0}) ℕ} {f : F} (S : Marks) (ws 
       past : (m : ℕ) → 512 ≤ m → held ws m ≡ S m
       past m h = let n = all.long in held_past ws m (omega arith) ∙ sym (none m h)
 
--- two sets with the same words hold the same
-pub same_held : (xs ys : List ℕ) (n : ℕ) → length xs ≤ n → length ys ≤ n → ((i : ℕ) → i < n → get_or xs i 0 ≡ get_or ys i 0) → held xs ≡ held ys
-same_held xs ys n hx hy same = fun_ext (λ m. go m (cases_lt (m / 64) n))
-  where
-    go : (m : ℕ) → (m / 64 < n) ⊎ (n ≤ m / 64) → held xs m ≡ held ys m
-    go m (inl l) = ap (λ (x : ℕ). bit x (m % 64)) (same (m / 64) l)
-    go m (inr h) = held_past xs m (omega arith) ∙ sym (held_past ys m (omega arith))
-
 -- two sets that hold the same have the same words
 pub words_same : (xs ys : List ℕ) (i : ℕ) → get_or xs i 0 < 2 ^ 64 → get_or ys i 0 < 2 ^ 64 → held xs ≡ held ys → get_or xs i 0 ≡ get_or ys i 0
 words_same xs ys i hx hy same =
@@ -123,7 +115,7 @@ pub word_within : (a b k : ℕ) → b < 2 ^ 64 → k < 64 → bit_and a (2 ^ 64 
 word_within a b k hb hk z t = holds (go (bit a k) (bit b k) (is_true (bit a k) t) none)
   where
     none : (bit a k && not (bit b k)) ≡ false
-    none = ap (λ (x : Bool). bit a k && x) (sym (bit_not 64 b k hb hk)) ∙ sym (bit_of_and a (2 ^ 64 - 1 - b) k) ∙ ap (λ (x : ℕ). bit x k) z ∙ bit_zero k
+    none = ap (λ (x : Bool). bit a k && x) (sym (bit_not b k hb hk)) ∙ sym (bit_of_and a (2 ^ 64 - 1 - b) k) ∙ ap (λ (x : ℕ). bit x k) z ∙ bit_zero k
 
     go : (x y : Bool) → x ≡ true → (x && not y) ≡ false → y ≡ true
     go x y e f = grind (arith, nat_tests)
@@ -142,11 +134,11 @@ word_no_more a b ha hb within = bits_eq 64 (bit_and a (2 ^ 64 - 1 - b)) 0 small 
 
     here : (k : ℕ) → k < 64 → bit (bit_and a (2 ^ 64 - 1 - b)) k ≡ false
     here k h =
-        bit_of_and a (2 ^ 64 - 1 - b) k ∙ ap (λ (x : Bool). bit a k && x) (bit_not 64 b k hb h)
+        bit_of_and a (2 ^ 64 - 1 - b) k ∙ ap (λ (x : Bool). bit a k && x) (bit_not b k hb h)
         ∙ is_false (bit a k && not (bit b k)) (λ t. go (bit a k) (bit b k) (within k h) t)
 
 -- the marks from `from` to the end of its word are the digits of what is left of that word
-pub held_from : (ws : List ℕ) (from k : ℕ) → from ≤ k → k / 64 ≡ from / 64 → held ws k ≡ bit (get_or ws (from / 64) 0 / 2 ^ (from % 64)) (k - from)
+held_from : (ws : List ℕ) (from k : ℕ) → from ≤ k → k / 64 ≡ from / 64 → held ws k ≡ bit (get_or ws (from / 64) 0 / 2 ^ (from % 64)) (k - from)
 held_from ws from k h e =
     let f : k % 64 ≡ from % 64 + (k - from) = omega arith in
     ap₂ (λ (x y : ℕ). bit (get_or ws x 0) y) e f ∙ sym (bit_shr (get_or ws (from / 64) 0) (from % 64) (k - from))
@@ -159,9 +151,9 @@ module _ (ws : List ℕ) (from : ℕ) (small : get_or ws (from / 64) 0 < 2 ^ 64)
   lead_held =
       let n = get_or ws (from / 64) 0 / 2 ^ (from % 64) in
       let le = shr_le (get_or ws (from / 64) 0) (from % 64) in
-      trailing_at 64 n (trailing_some 64 n (omega arith) some)
+      trailing_at n some (omega arith)
 
-  pub lead_inside : from % 64 + count_trailing_zeros 64 (get_or ws (from / 64) 0 / 2 ^ (from % 64)) < 64
+  lead_inside : from % 64 + count_trailing_zeros 64 (get_or ws (from / 64) 0 / 2 ^ (from % 64)) < 64
   lead_inside =
       let w = get_or ws (from / 64) 0 in
       let t = count_trailing_zeros 64 (w / 2 ^ (from % 64)) in
@@ -180,7 +172,7 @@ module _ (ws : List ℕ) (from : ℕ) (small : get_or ws (from / 64) 0 < 2 ^ 64)
   lead_first k h l =
       let n = get_or ws (from / 64) 0 / 2 ^ (from % 64) in
       let i = lead_inside in
-      held_from ws from k h (omega arith) ∙ trailing_below 64 n (k - from) (omega arith)
+      held_from ws from k h (omega arith) ∙ trailing_below n some (omega arith) (k - from) (omega arith)
 
 -- words hold as many marks as they have ones
 pub ones_held : (ws : List ℕ) → ((i : ℕ) → get_or ws i 0 < 2 ^ 64) → sum_by ones ws ≡ size (64 * length ws) (held ws)
