@@ -1,3 +1,4 @@
+pub mod Ascents
 pub mod Turns
 pub mod Passing
 pub mod Going
