@@ -13,10 +13,6 @@ pub given : {F R : Type 0} → Test F ⊥ R → R
 given (inl f) = absurd f.1
 given (inr h) = h.1
 
--- the fault of the second of two tests was not there
-pub second_passed : {F G R : Type 0} → Test F ⊥ (Test G ⊥ R) → G → ⊥
-second_passed t g = elim (given t) [ inl f ↦ absurd f.1 | inr h ↦ h.0 g ]
-
 -- what is given, put in other words
 pub gives_map : {A : Type 0} {P Q : A → Type 0} (r : Result A Refusal) → ((a : A) → P a → Q a) → Gives r P → Gives r Q
 gives_map (Ok a) f p = f a p

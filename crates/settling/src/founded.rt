@@ -18,16 +18,24 @@ pub struct Model {
     pub fails: MarkSet,
 }
 
-// The well-founded model of the facts and fare lines, as Van Gelder, Ross and Schlipf defined it in 1991: the least reading with
-// the bare book, where what lies outside its U is not so.
+impl Trip<'_, BareBook> {
+    // The least reading with the bare book: what lies outside its U is not so.
+    fn model(&self) -> Result<Model, Refusal>
+        ensures { Gives result (IsModel self.now.lines.now self.now.facts.now) }
+    {
+        let reading = self.rounds::<FirstWay>()?.reading;
+        let fails = complement(&reading.upper)?;
+        Ok(Model {
+            holds: reading.lower,
+            fails,
+        })
+    }
+}
+
+// The well-founded model of the facts and fare lines, as Van Gelder, Ross and Schlipf defined it in 1991.
 pub fn well_founded(lines: &[FareLine], facts: &MarkSet) -> Result<Model, Refusal>
     ensures { Test (LawfulFares facts.now.width lines.now → ⊥) (Refuses result 8) (Gives result (IsModel lines.now facts.now)) }
 {
     let book = BareBook::new(facts.width())?;
-    let reading = Trip::of(lines, &book, facts)?.rounds::<FirstWay>()?.reading;
-    let fails = complement(&reading.upper)?;
-    Ok(Model {
-        holds: reading.lower,
-        fails,
-    })
+    Trip::of(lines, &book, facts)?.model()
 }

@@ -2,6 +2,7 @@
 ghost use Rattle.std.specs.Prelude.{◌≡◌, ◌⊎◌};
 ghost use Rattle.marks.specs.Refusals.{Refuses, Gives, Test};
 ghost use Rattle.settling.specs.Calls.{Unlike, LawfulFares, FullYield, GuardedYield};
+ghost use Rattle.settling.specs.Growth.{DeniesHeads};
 
 use crate::trip::{Trip, same_width};
 use books::book::TermBook;
@@ -25,18 +26,27 @@ impl<B: TermBook> Trip<'_, B> {
         self.grown(&none, &gate)
     }
 
-    // The guarded yield: besides, rules whose head the book denies at the given set do not count.
-    pub(crate) fn guarded_of(&self, at: &MarkSet) -> Result<MarkSet, Refusal>
-        requires { at.now.width ≡ (B.TermBook.book self.now.book.now).width }
+    // What grows where these heads, which the book denies at the given set, do not count.
+    fn grown_without(&self, at: &MarkSet, denied: MarkSet) -> Result<MarkSet, Refusal>
+        requires { DeniesHeads (B.TermBook.book self.now.book.now) self.now.lines.now self.now.facts.now at.now denied }
         ensures { Gives result (GuardedYield (B.TermBook.book self.now.book.now) self.now.lines.now self.now.facts.now at.now) }
     {
         let none = MarkSet::empty(self.book.width())?;
         let gate = Admission {
             exceptions: *at,
-            denied: self.denied_heads(at)?,
+            denied,
             refuted: none,
         };
         self.grown(&none, &gate)
+    }
+
+    // The guarded yield: besides, rules whose head the book denies at the given set do not count.
+    pub(crate) fn guarded_of(&self, at: &MarkSet) -> Result<MarkSet, Refusal>
+        requires { at.now.width ≡ (B.TermBook.book self.now.book.now).width }
+        ensures { Gives result (GuardedYield (B.TermBook.book self.now.book.now) self.now.lines.now self.now.facts.now at.now) }
+    {
+        let denied = self.denied_heads(at)?;
+        self.grown_without(at, denied)
     }
 }
 
