@@ -2,6 +2,7 @@
 ghost use Rattle.sheet.specs.Theorems.{CountsDecide};
 
 // What counts answers is one number for each answer, and no other.
+#[tactic(auto, using(crate::proofs::Counting::counts_decide))]
 pub fn counts_decide()
     ensures { CountsDecide }
 {}
