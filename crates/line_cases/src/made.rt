@@ -52,8 +52,5 @@ pub(crate) fn term(kind: Kind, head: u16, conditions: MarkList) -> TermLine {
 
 // Whether the call was refused with that number.
 pub(crate) fn refused(r: Result<(), Refusal>, number: u8) -> bool {
-    match r {
-        Ok(()) => false,
-        Err(why) => why.number() == number,
-    }
+    r.is_err_and(|why| why.number() == number)
 }

@@ -2,7 +2,7 @@
 use Rattle.std.proofs.Common.{◌≡◌, ℕ, ◌<◌, ◌≤◌, Bool, true, false, cond, T, ltb, Some, None, Option, refl, ap, ◌∙◌, ltb→lt}
 use Rattle.std.proofs.lemmas.Bool.{cond-true, cond-false, cond_both, lt-ltb, le-ltb}
 use Rattle.marks.specs.Sets.{Marks, ◌∈◌, ◌⊆◌, OfWidth, with_mark}
-use Rattle.marks.proofs.Sets.{with_inside, with_there, holds}
+use Rattle.marks.proofs.Sets.{with_inside, holds}
 use Rattle.readings.proofs.Sets.{with_old, with_within}
 use Rattle.lines.specs.Passes.{View, fires, with_head, brought}
 
@@ -17,15 +17,6 @@ module _ (w : ℕ) (v : View) (S : Marks) where
   -- where nothing is brought in
   pub brought_headless : v.head ≡ None → brought w v S ≡ S
   brought_headless e = brought_as None e ∙ cond_same (fires v S) S
-
-  pub brought_idle : fires v S ≡ false → brought w v S ≡ S
-  brought_idle e = cond-false (fires v S) (with_head w v.head S) S e
-
-  pub brought_there : (m : ℕ) → v.head ≡ Some m → m ∈ S → brought w v S ≡ S
-  brought_there m e h =
-      brought_as (Some m) e
-      ∙ ap (λ (X : Marks). cond (fires v S) (cond (ltb m w) X S) S) (with_there S m h)
-      ∙ ap (λ (X : Marks). cond (fires v S) X S) (cond_same (ltb m w) S) ∙ cond_same (fires v S) S
 
   pub brought_past : (m : ℕ) → v.head ≡ Some m → w ≤ m → brought w v S ≡ S
   brought_past m e h =

@@ -27,15 +27,10 @@ pub record SameBar (a b : Bar) : Type 0 where
   pub low : a.low ≡ b.low
   pub high : a.high ≡ b.high
 
--- The same as tests that compute. The contract of each `==` says that its test is true exactly where the record above holds.
+-- Two of them as tests that compute, for an `==` that is written by hand. Its contract says that the test is true exactly where the
+-- record above holds; of the derived ones, for fare lines and bars, src/theorems.rt says so.
 abbrev pub lists_equal : MarkList → MarkList → Bool
 lists_equal = eq_of_both (on (λ (l : MarkList). l.count) nat_eq) (on (λ (l : MarkList). used l) (pointwise nat_eq))
 
-abbrev pub fares_equal : FareLine → FareLine → Bool
-fares_equal = eq_of_both (on (λ (l : FareLine). l.head) nat_eq) (eq_of_both (on (λ (l : FareLine). l.conditions) lists_equal) (on (λ (l : FareLine). l.unless) lists_equal))
-
 abbrev pub terms_equal : TermLine → TermLine → Bool
 terms_equal = eq_of_both (on (λ (l : TermLine). term_head l) (option_eq nat_eq)) (on (λ (l : TermLine). l.conditions) lists_equal)
-
-abbrev pub bars_equal : Bar → Bar → Bool
-bars_equal = eq_of_both (on (λ (b : Bar). b.low) nat_eq) (on (λ (b : Bar). b.high) nat_eq)

@@ -12,10 +12,14 @@ use crate::line::Line;
 use crate::list::MarkList;
 use marks::set::MarkSet;
 
+// How many term lines there may be at most.
+pub const MOST_TERMS: usize = 512;
+
 // What a term line says of its conditions.
-#[derive(Clone, Copy, Debug, PartialEq)]
+#[derive(Clone, Copy, Debug, Default, PartialEq)]
 pub enum Kind {
     // where they all hold, the head holds
+    #[default]
     Gives = 1,
     // they never hold all together
     Denies = 2,
@@ -30,7 +34,7 @@ impl Kind {
 }
 
 // At a denial the head is an unused place.
-#[derive(Clone, Copy, Debug)]
+#[derive(Clone, Copy, Debug, Default)]
 pub struct TermLine {
     pub kind: Kind,
     pub head: u16,

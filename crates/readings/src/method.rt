@@ -1,22 +1,48 @@
 // The two methods of settling a sheet.
 ghost use Rattle.std.specs.Prelude.{◌≡◌};
-ghost use Rattle.readings.specs.Says.{the_method};
+ghost use Rattle.readings.specs.Says.{the_method, Numbers};
 
-#[derive(Clone, Copy, Debug, PartialEq)]
+use std::error::Error;
+use std::fmt;
+
+#[derive(Clone, Copy, Debug, PartialEq, Eq)]
 pub enum Method {
     // the alternating fixpoint
-    First,
+    First = 1,
     // the iterated fixpoint
-    Second,
+    Second = 2,
 }
 
 impl Method {
     pub fn number(self) -> u8
         ensures { result ≡ (the_method self).number }
     {
-        match self {
-            Method::First => 1,
-            Method::Second => 2,
+        self as u8
+    }
+}
+
+// A number that no method has.
+#[derive(Clone, Copy, Debug, PartialEq, Eq)]
+pub struct UnknownMethod(pub u16);
+
+impl TryFrom<u16> for Method {
+    type Error = UnknownMethod;
+
+    ghost try_from_gives = { Numbers };
+
+    fn try_from(number: u16) -> Result<Self, UnknownMethod> {
+        match number {
+            1 => Ok(Method::First),
+            2 => Ok(Method::Second),
+            _ => Err(UnknownMethod(number)),
         }
     }
 }
+
+impl fmt::Display for UnknownMethod {
+    fn fmt<W: fmt::Write>(&self, f: &mut fmt::Formatter<W>) -> fmt::Result {
+        write!(f, "a method is 1 or 2, not {}", self.0)
+    }
+}
+
+impl Error for UnknownMethod {}
