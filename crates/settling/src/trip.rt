@@ -4,10 +4,9 @@ ghost use Rattle.marks.specs.Refusals.{Refuses, Gives, Test};
 ghost use Rattle.std.proofs.Props.{props};
 ghost use Rattle.settling.specs.Calls.{Unlike, LawfulFares, Ascends-prop, GoesWith};
 
-use crate::yields::MOST_FARES;
 use books::book::TermBook;
 use lines::check::check_records;
-use lines::fare::FareLine;
+use lines::fare::{FareLine, MOST_FARES};
 use marks::refusal::Refusal;
 use marks::set::MarkSet;
 

@@ -50,9 +50,6 @@ impl<B: TermBook> Trip<'_, B> {
     }
 }
 
-// The most fare lines that a call takes.
-pub const MOST_FARES: usize = 1024;
-
 // The full yield of a set for these facts, fare lines and book.
 pub fn full_yield<B: TermBook>(
     lines: &[FareLine],
