@@ -6,9 +6,10 @@ ghost use Rattle.readings.specs.Readings.{Sound};
 ghost use Rattle.settling.specs.Calls.{Unlike, LawfulFares};
 ghost use Rattle.settling.specs.Growth.{rules_of};
 
-use crate::trip::{Trip, same_width};
+use crate::trip::Trip;
 use crate::verdict::clashes;
 use books::book::TermBook;
+use books::width::check_set_width;
 use lines::fare::FareLine;
 use marks::refusal::Refusal;
 use marks::set::MarkSet;
@@ -35,6 +36,6 @@ pub fn is_sound<B: TermBook>(
 ) -> Result<bool, Refusal>
     ensures { Test (Unlike (B.TermBook.book book.now) facts.now ⊎ Unlike (B.TermBook.book book.now) set.now) (Refuses result 7) (Test (LawfulFares (B.TermBook.book book.now).width lines.now → ⊥) (Refuses result 8) (Gives result (λ b. Decides b (Sound (B.TermBook.book book.now) (rules_of lines.now) (marks_of facts.now) (marks_of set.now))))) }
 {
-    same_width(book, set)?;
+    check_set_width(set, book.width())?;
     Trip::of(lines, book, facts)?.sound(set)
 }

@@ -5,6 +5,7 @@ ghost use Rattle.std.proofs.Props.{props};
 ghost use Rattle.settling.specs.Calls.{Unlike, LawfulFares, Ascends-prop, GoesWith};
 
 use books::book::TermBook;
+use books::width::check_set_width;
 use lines::check::check_records;
 use lines::fare::{FareLine, MOST_FARES};
 use marks::refusal::Refusal;
@@ -19,16 +20,6 @@ pub(crate) struct Trip<'a, B: TermBook> {
     ghost goes: { GoesWith (B.TermBook.book book.now) lines.now facts.now } by { Prim.hlevel (props, Ascends-prop) },
 }
 
-// Refused where the set has another width than the book.
-pub(crate) fn same_width<B: TermBook>(book: &B, set: &MarkSet) -> Result<(), Refusal>
-    ensures { Test (Unlike (B.TermBook.book book.now) set.now) (Refuses result 7) (Gives result (λ _. set.now.width ≡ (B.TermBook.book book.now).width)) }
-{
-    if set.width() != book.width() {
-        return Err(Refusal::Width);
-    }
-    Ok(())
-}
-
 impl<'a, B: TermBook> Trip<'a, B> {
     // Refused where the widths differ, and then where a line is not lawful or there are too many.
     pub(crate) fn of(
@@ -38,7 +29,7 @@ impl<'a, B: TermBook> Trip<'a, B> {
     ) -> Result<Trip<'a, B>, Refusal>
         ensures { Test (Unlike (B.TermBook.book book.now) facts.now) (Refuses result 7) (Test (LawfulFares (B.TermBook.book book.now).width lines.now → ⊥) (Refuses result 8) (Gives result (λ t. (t.lines.now ≡ lines.now) × (t.book.now ≡ book.now) × (t.facts.now ≡ facts.now)))) }
     {
-        same_width(book, facts)?;
+        check_set_width(facts, book.width())?;
         check_records(lines, MOST_FARES, book.width())?;
         Ok(Trip { lines, book, facts })
     }

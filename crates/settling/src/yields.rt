@@ -4,8 +4,9 @@ ghost use Rattle.marks.specs.Refusals.{Refuses, Gives, Test};
 ghost use Rattle.settling.specs.Calls.{Unlike, LawfulFares, FullYield, GuardedYield};
 ghost use Rattle.settling.specs.Growth.{DeniesHeads};
 
-use crate::trip::{Trip, same_width};
+use crate::trip::Trip;
 use books::book::TermBook;
+use books::width::check_set_width;
 use lines::admission::Admission;
 use lines::fare::FareLine;
 use marks::refusal::Refusal;
@@ -59,7 +60,7 @@ pub fn full_yield<B: TermBook>(
 ) -> Result<MarkSet, Refusal>
     ensures { Test (Unlike (B.TermBook.book book.now) facts.now ⊎ Unlike (B.TermBook.book book.now) at.now) (Refuses result 7) (Test (LawfulFares (B.TermBook.book book.now).width lines.now → ⊥) (Refuses result 8) (Gives result (FullYield (B.TermBook.book book.now) lines.now facts.now at.now))) }
 {
-    same_width(book, at)?;
+    check_set_width(at, book.width())?;
     Trip::of(lines, book, facts)?.full_of(at)
 }
 
@@ -72,6 +73,6 @@ pub fn guarded_yield<B: TermBook>(
 ) -> Result<MarkSet, Refusal>
     ensures { Test (Unlike (B.TermBook.book book.now) facts.now ⊎ Unlike (B.TermBook.book book.now) at.now) (Refuses result 7) (Test (LawfulFares (B.TermBook.book book.now).width lines.now → ⊥) (Refuses result 8) (Gives result (GuardedYield (B.TermBook.book book.now) lines.now facts.now at.now))) }
 {
-    same_width(book, at)?;
+    check_set_width(at, book.width())?;
     Trip::of(lines, book, facts)?.guarded_of(at)
 }
