@@ -1,5 +1,5 @@
 // Line books.
-use crate::made::{denies, gives, none, refused, set, two};
+use crate::made::{denies, gives, list, refused, set};
 use books::book::TermBook;
 use line_book::book::LineBook;
 use lines::list::MarkList;
@@ -9,7 +9,7 @@ use std::test::Fail;
 #[test]
 fn grows(rt: HostRuntime) -> Result<(), Fail> {
     let mut book = LineBook::new(5)?;
-    book.fill(&[denies(two(2, 3)), gives(two(0, 1), 2), gives(none(), 0)])?;
+    book.fill(&[denies(list(&[2, 3])), gives(list(&[0, 1]), 2), gives(list(&[]), 0)])?;
     let mut s = set(5, &[1])?;
     assert!(rt; !book.close(&mut s)?);
     assert!(rt; s.same_marks(&set(5, &[0, 1, 2])?)?);
@@ -34,8 +34,8 @@ fn no_line(rt: HostRuntime) -> Result<(), Fail> {
 #[test]
 fn at_most_512(rt: HostRuntime) -> Result<(), Fail> {
     let mut book = LineBook::new(512)?;
-    assert!(rt; book.fill(&[gives(none(), 511); 512]).is_ok());
-    assert!(rt; refused(book.fill(&[gives(none(), 0); 513]), 8));
+    assert!(rt; book.fill(&[gives(list(&[]), 511); 512]).is_ok());
+    assert!(rt; refused(book.fill(&[gives(list(&[]), 0); 513]), 8));
     let mut s = set(512, &[])?;
     assert!(rt; !book.close(&mut s)?);
     assert!(rt; s.same_marks(&set(512, &[511])?)?);
@@ -56,10 +56,10 @@ fn lawful(rt: HostRuntime) -> Result<(), Fail> {
     };
     assert!(rt; book.fill(&[gives(eight, 8)]).is_ok());
     assert!(rt; refused(book.fill(&[gives(nine, 8)]), 8));
-    assert!(rt; refused(book.fill(&[gives(two(0, 1), 9)]), 8));
-    assert!(rt; refused(book.fill(&[denies(two(1, 1))]), 8));
-    assert!(rt; refused(book.fill(&[denies(two(1, 0))]), 8));
-    assert!(rt; refused(book.fill(&[denies(two(0, 9))]), 8));
-    assert!(rt; book.fill(&[denies(two(0, 8))]).is_ok());
+    assert!(rt; refused(book.fill(&[gives(list(&[0, 1]), 9)]), 8));
+    assert!(rt; refused(book.fill(&[denies(list(&[1, 1]))]), 8));
+    assert!(rt; refused(book.fill(&[denies(list(&[1, 0]))]), 8));
+    assert!(rt; refused(book.fill(&[denies(list(&[0, 9]))]), 8));
+    assert!(rt; book.fill(&[denies(list(&[0, 8]))]).is_ok());
     Ok(())
 }
