@@ -1,8 +1,9 @@
 // Line books.
-use crate::made::{denies, gives, list, refused, set};
+use crate::made::{denies, gives, list, refused};
 use books::book::TermBook;
 use line_book::book::LineBook;
 use lines::list::MarkList;
+use marks::set::MarkSet;
 use std::test::Fail;
 
 // Lines against their order: always gives 0; 0 with 1 gives 2; 2 with 3 is denied.
@@ -10,10 +11,10 @@ use std::test::Fail;
 fn grows(rt: HostRuntime) -> Result<(), Fail> {
     let mut book = LineBook::new(5)?;
     book.fill(&[denies(list(&[2, 3])), gives(list(&[0, 1]), 2), gives(list(&[]), 0)])?;
-    let mut s = set(5, &[1])?;
+    let mut s = MarkSet::of(5, &[1])?;
     assert!(rt; !book.close(&mut s)?);
-    assert!(rt; s.same_marks(&set(5, &[0, 1, 2])?)?);
-    let mut s = set(5, &[1, 3])?;
+    assert!(rt; s.same_marks(&MarkSet::of(5, &[0, 1, 2])?)?);
+    let mut s = MarkSet::of(5, &[1, 3])?;
     assert!(rt; book.close(&mut s)?);
     assert!(rt; s.count() == 5);
     Ok(())
@@ -23,10 +24,10 @@ fn grows(rt: HostRuntime) -> Result<(), Fail> {
 #[test]
 fn no_line(rt: HostRuntime) -> Result<(), Fail> {
     let book = LineBook::new(5)?;
-    let mut s = set(5, &[1, 3])?;
+    let mut s = MarkSet::of(5, &[1, 3])?;
     assert!(rt; !book.close(&mut s)?);
     assert!(rt; s.count() == 2);
-    assert!(rt; book.close(&mut set(6, &[1])?).is_err());
+    assert!(rt; book.close(&mut MarkSet::of(6, &[1])?).is_err());
     Ok(())
 }
 
@@ -36,9 +37,9 @@ fn at_most_512(rt: HostRuntime) -> Result<(), Fail> {
     let mut book = LineBook::new(512)?;
     assert!(rt; book.fill(&[gives(list(&[]), 511); 512]).is_ok());
     assert!(rt; refused(book.fill(&[gives(list(&[]), 0); 513]), 8));
-    let mut s = set(512, &[])?;
+    let mut s = MarkSet::of(512, &[])?;
     assert!(rt; !book.close(&mut s)?);
-    assert!(rt; s.same_marks(&set(512, &[511])?)?);
+    assert!(rt; s.same_marks(&MarkSet::of(512, &[511])?)?);
     Ok(())
 }
 

@@ -38,9 +38,7 @@ pub(crate) fn set(text: &str) -> anyhow::Result<MarkSet> {
     let (width, marks) = text
         .split_once(':')
         .context("a set has a width and a colon")?;
-    let empty = MarkSet::empty(number(width)?).map_err(|_| anyhow!(
-        "a set has a width from 1 to 512"
-    ))?;
+    let empty = MarkSet::empty(number(width)?).context("a set has a width from 1 to 512")?;
     with_marks(empty, marks)
 }
 

@@ -4,6 +4,7 @@ use crate::script::ReplyText;
 use crate::tariff_file::Tariff;
 use books::book::TermBook;
 use marks::refusal::Refusal;
+use marks::set::MarkSet;
 use readings::method::Method;
 use readings::verdict::Verdict;
 use sheet::reply::{Counts, Reply, Settlement};
@@ -13,7 +14,7 @@ use texts::trip::{Closed, Facts};
 
 fn close(tariff: &Tariff, marks: &[u16]) -> Result<Closed, Refusal> {
     let book = tariff.book()?;
-    let given = tariff.set_of(marks)?;
+    let given = MarkSet::of(tariff.width, marks)?;
     let mut closure = given;
     let clash = book.close(&mut closure)?;
     Ok(Closed {
@@ -63,7 +64,7 @@ impl fmt::Display for CountsText {
 }
 
 pub(crate) fn show_counts(rt: &HostRuntime, tariff: &Tariff, marks: &[u16]) -> Result<(), Failure> {
-    let facts = tariff.set_of(marks)?;
+    let facts = MarkSet::of(tariff.width, marks)?;
     let trip = settle_trip(tariff, marks, Method::First)?;
     let given = Facts(&facts);
     let counts = CountsText(trip.sheet.counts()?);
@@ -77,7 +78,7 @@ pub(crate) fn show_settled(
     marks: &[u16],
     method: Method,
 ) -> Result<(), Failure> {
-    let facts = tariff.set_of(marks)?;
+    let facts = MarkSet::of(tariff.width, marks)?;
     let trip = settle_trip(tariff, marks, method)?;
     let given = Facts(&facts);
     let number = method.number();

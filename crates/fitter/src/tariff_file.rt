@@ -5,7 +5,6 @@ use line_book::book::LineBook;
 use lines::fare::FareLine;
 use lines::term::TermLine;
 use marks::refusal::Refusal;
-use marks::set::MarkSet;
 use std::alloc::Global;
 use std::fs;
 use tariff_reader::read::{check_tariff, read_tariff};
@@ -40,15 +39,6 @@ impl Tariff {
         let mut book = LineBook::new(self.width)?;
         book.fill(self.terms.as_slice())?;
         Ok(book)
-    }
-
-    // The set of these marks.
-    pub(crate) fn set_of(&self, marks: &[u16]) -> Result<MarkSet, Refusal> {
-        let mut set = MarkSet::empty(self.width)?;
-        for m in marks {
-            set.insert(*m)?;
-        }
-        Ok(set)
     }
 }
 

@@ -1,11 +1,12 @@
 // Fare lines, term lines and bars.
-use crate::made::{fare, list, refused, set, term};
+use crate::made::{fare, list, refused, term};
 use lines::admission::Admission;
 use lines::bar::Bar;
 use lines::check::check_records;
 use lines::list::MarkList;
 use lines::pass::pass;
 use lines::term::Kind;
+use marks::set::MarkSet;
 use std::test::Fail;
 
 // 1024 fare lines are taken and 1025 are not; 8 conditions are and 9 are not.
@@ -60,12 +61,12 @@ fn term_pass(rt: HostRuntime) -> Result<(), Fail> {
         term(Kind::Gives, 2, list(&[1])),
         term(Kind::Denies, 0, list(&[1, 2])),
     ];
-    let mut s = set(4, &[1])?;
+    let mut s = MarkSet::of(4, &[1])?;
     let first = pass(&lines, &(), &mut s);
     assert!(rt; first.added && first.stood);
-    assert!(rt; s.same_marks(&set(4, &[1, 2])?)?);
+    assert!(rt; s.same_marks(&MarkSet::of(4, &[1, 2])?)?);
     assert!(rt; pass(&lines, &(), &mut s).added);
-    assert!(rt; s.same_marks(&set(4, &[1, 2, 3])?)?);
+    assert!(rt; s.same_marks(&MarkSet::of(4, &[1, 2, 3])?)?);
     assert!(rt; !pass(&lines, &(), &mut s).added);
     Ok(())
 }
@@ -81,13 +82,13 @@ fn fare_pass(rt: HostRuntime) -> Result<(), Fail> {
         fare(5, list(&[]), list(&[])),
     ];
     let gate = Admission {
-        exceptions: set(6, &[4])?,
-        denied: set(6, &[3])?,
-        refuted: set(6, &[5])?,
+        exceptions: MarkSet::of(6, &[4])?,
+        denied: MarkSet::of(6, &[3])?,
+        refuted: MarkSet::of(6, &[5])?,
     };
-    let mut s = set(6, &[0])?;
+    let mut s = MarkSet::of(6, &[0])?;
     let passed = pass(&lines, &gate, &mut s);
     assert!(rt; passed.added && !passed.stood);
-    assert!(rt; s.same_marks(&set(6, &[0, 2, 5])?)?);
+    assert!(rt; s.same_marks(&MarkSet::of(6, &[0, 2, 5])?)?);
     Ok(())
 }

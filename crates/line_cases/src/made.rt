@@ -3,15 +3,6 @@ use lines::fare::FareLine;
 use lines::list::MarkList;
 use lines::term::{Kind, TermLine};
 use marks::refusal::Refusal;
-use marks::set::MarkSet;
-
-pub(crate) fn set(width: u16, marks: &[u16]) -> Result<MarkSet, Refusal> {
-    let mut made = MarkSet::empty(width)?;
-    for m in marks {
-        made.insert(*m)?;
-    }
-    Ok(made)
-}
 
 // A list of these marks, at most eight; the places behind them hold 9999.
 pub(crate) fn list(marks: &[u16]) -> MarkList {

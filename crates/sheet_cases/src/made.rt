@@ -4,18 +4,9 @@ use lines::fare::FareLine;
 use lines::list::MarkList;
 use lines::term::{Kind, TermLine};
 use marks::refusal::Refusal;
-use marks::set::MarkSet;
 use readings::answer::Answer;
 use sheet::reply::Reply;
 use sheet::sheet::Sheet;
-
-pub(crate) fn set(width: u16, marks: &[u16]) -> Result<MarkSet, Refusal> {
-    let mut made = MarkSet::empty(width)?;
-    for m in marks {
-        made.insert(*m)?;
-    }
-    Ok(made)
-}
 
 fn one(a: u16) -> MarkList {
     MarkList {
