@@ -1,7 +1,10 @@
 -- Sets of marks as tests of numbers.
-use Rattle.std.proofs.Common.{◌≡◌, ℕ, ◌<◌, ◌≤◌, Bool, true, false, not, ◌&&◌, ◌||◌, T, eqb, sym, refl, subst, arith, eqb→eq, ltb→lt, lt→ltb}
+use Rattle.std.proofs.Common.{◌≡◌, ℕ, ◌+◌, ◌<◌, ◌≤◌, List, length, get_or, take, ◌∙◌, Bool, true, false, not, ◌&&◌, ◌||◌, T, eqb, sym, refl, subst, arith, eqb→eq, ltb→lt, lt→ltb}
 use mathlib.Core.Path.{fun_ext}
-use Rattle.marks.specs.Sets.{Marks, ◌∈◌, ◌⊆◌, below, OfWidth, with_mark, without_mark, ◌∪◌, ◌∩◌}
+use Rattle.std.proofs.lemmas.List.Folds.{list_any_more}
+use Rattle.std.proofs.Math.Bool.{or_comm}
+use Rattle.marks.specs.Joins.{joined}
+use Rattle.marks.specs.Sets.{Marks, ◌∈◌, ◌⊆◌, below, OfWidth, listed, with_mark, without_mark, ◌∪◌, ◌∩◌}
 
 -- a test that came out true, and one that cannot
 pub holds : {b : Bool} → b ≡ true → T b
@@ -55,6 +58,14 @@ both_inside w S S' f g m = go (S m) (f m) (g m)
     go true f g t = f tt
     go false f g t = g t
 
+pub joined_inside : (on : Bool → Bool → Bool) → on false false ≡ false → (w : ℕ) (S S' : Marks) → OfWidth w S → OfWidth w S' → OfWidth w (joined on S S')
+joined_inside on none w S S' f g m = go (S m) (S' m) (f m) (g m)
+  where
+    go : (a b : Bool) → (T a → m ∈ below w) → (T b → m ∈ below w) → T (on a b) → m ∈ below w
+    go true b f g t = f tt
+    go false true f g t = g tt
+    go false false f g t = absurd (fails none t)
+
 -- a set cut down by a test
 pub part_inside : (w : ℕ) (S S' : Marks) → OfWidth w S → OfWidth w (S ∩ S')
 part_inside w S S' f m = go (S m) (f m)
@@ -70,3 +81,7 @@ with_there S k h = fun_ext (λ m. go m (eqb m k) (eqb→eq m k))
     go : (m : ℕ) (b : Bool) → (T b → m ≡ k) → (b || S m) ≡ S m
     go m true e = sym (is_true (S m) (subst (λ (j : ℕ). j ∈ S) (sym (e tt)) h))
     go m false e = refl
+
+-- one mark more of a list
+pub listed_more : (ms : List ℕ) (i : ℕ) → i < length ms → with_mark (listed (take i ms)) (get_or ms i 0) ≡ listed (take (i + 1) ms)
+listed_more ms i h = fun_ext (λ m. or_comm (eqb m (get_or ms i 0)) (listed (take i ms) m) ∙ sym (list_any_more (λ k. eqb m k) ms i 0 h))

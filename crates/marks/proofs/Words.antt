@@ -1,12 +1,15 @@
 -- The marks that words hold: after a write, a word at a time, from a place on.
-use Rattle.std.proofs.Common.{◌≡◌, ℕ, zero, suc, ◌+◌, ◌-◌, ◌*◌, ◌/◌, ◌%◌, ◌^◌, ◌<◌, ◌≤◌, Bool, true, false, cond, not, ◌&&◌, ◌||◌, T, eqb, ◌⊎◌, List, length, get_or, set, replicate, sym, refl, ap, ◌∙◌, ap₂, inl, inr, ⊎_elim, arith, length-set, get_or-set_other, get_or-set_same}
+use Rattle.std.proofs.Common.{◌≡◌, ℕ, zero, suc, ◌+◌, ◌-◌, ◌*◌, ◌/◌, ◌%◌, ◌^◌, ◌<◌, ◌≤◌, Bool, true, false, cond, not, ◌&&◌, ◌||◌, T, eqb, ◌⊎◌, List, [], ◌∷◌, length, sum_by, get_or, set, replicate, sym, refl, ap, ◌∙◌, ap₂, subst, inl, inr, ⊎_elim, arith, get_or-set_other, get_or-set_same}
 use mathlib.Core.Path.{fun_ext}
 use lib.Bits.{bit_and, bit_or, and_le_l}
 use lib.Count.{ones, count_trailing_zeros}
 use lib.ListN.{get_or-eq_default}
 use Rattle.std.proofs.lemmas.Nat.{one_shl, shr_le}
+use Rattle.std.proofs.lemmas.List.Sums.{sum_by-cons}
 use Rattle.std.proofs.lemmas.Bool.{cases_eq, cases_lt, eq-eqb, ne_eqb, both_ways}
 use Rattle.std.proofs.lemmas.Bool.Decides.{nat_tests}
+use Rattle.std.specs.Array.{IsFromFnResult, IsFromFnResultFrom}
+use denote.Param.Members.{Mut, Called}
 use Rattle.marks.specs.Sets.{Marks, ◌∈◌, no_marks, with_mark, without_mark, size}
 use Rattle.marks.specs.Words.{bit, held}
 use Rattle.marks.proofs.Bits.{bit_zero, bit_of_and, bit_of_or, bit_pow, bit_not, bit_shr, bit_high, bits_eq, trailing_at, trailing_below, trailing_some}
@@ -64,7 +67,7 @@ held_remove ws m k h =
     let w = get_or ws (m / 64) 0 in
     let v = 1 * 2 ^ (m % 64) % 2 ^ 64 in
     let flag : bit (2 ^ 64 - 1 - v) (k % 64) ≡ not (eqb (k % 64) (m % 64)) =
-    bit_not 64 v (k % 64) (omega arith) (omega arith)
+    bit_not v (k % 64) (omega arith) (omega arith)
     ∙ ap (λ (x : ℕ). not (bit x (k % 64))) (one_shl (m % 64) 64 (omega arith)) ∙ ap not (bit_pow (m % 64) (k % 64)) in
     held_set ws (m / 64) (bit_and w (2 ^ 64 - 1 - v)) k h
     ∙ ap (λ (b : Bool). cond (eqb (k / 64) (m / 64)) b (held ws k)) (bit_of_and w (2 ^ 64 - 1 - v) (k % 64) ∙ ap (λ (b : Bool). bit w (k % 64) && b) flag)
@@ -82,27 +85,25 @@ held_take ws m h = fun_ext (λ k. held_remove ws m k h)
 pub held_word : (ws : List ℕ) (i k : ℕ) → k < 64 → held ws (64 * i + k) ≡ bit (get_or ws i 0) k
 held_word ws i k l = ap₂ (λ (x y : ℕ). bit (get_or ws x 0) y) (omega arith) (omega arith)
 
--- the first i of eight words hold the marks of S
-pub record Filled (S : Marks) (ws : List ℕ) (i : ℕ) : Type 0 where
-  pub eight : length ws ≡ 8
-  pub words : (j k : ℕ) → j < i → k < 64 → bit (get_or ws j 0) k ≡ S (64 * j + k)
+-- eight words, each made by a call at its index, hold the marks of S if each call gives the marks of its word
+module _ {F : Type 0} {g : Mut F (ℕ × Unit {0}) ℕ} {f : F} (S : Marks) (ws : List ℕ)
+    (step : (i v : ℕ) (f' : F) → Called g f (i, tt) v f' → (f' ≡ f) × ((k : ℕ) → k < 64 → bit v k ≡ S (64 * i + k))) where
+  made_from : (n i : ℕ) → IsFromFnResultFrom g f ws i n → (j k : ℕ) → i ≤ j → j < i + n → k < 64 → bit (get_or ws j 0) k ≡ S (64 * j + k)
+  made_from zero i all j k h l b = absurd (omega arith)
+  made_from (suc n) i (f', v, at, call, all) j k h l b =
+      let one = step i v f' call in
+      ⊎_elim (λ e. ap (λ (x : ℕ). bit (get_or ws x 0) k) e ∙ ap (λ (x : ℕ). bit x k) (at.1 0) ∙ one.1 k b ∙ ap (λ (x : ℕ). S (64 * x + k)) (sym e))
+      (λ ne. made_from n (i + 1) (subst (λ (p : F). IsFromFnResultFrom g p ws (i + 1) n) one.0 all) j k (omega arith) (omega arith) b)
+      (cases_eq j i)
 
-pub filled_more : (S : Marks) (ws : List ℕ) (i v : ℕ) → i < 8 → Filled S ws i → ((k : ℕ) → k < 64 → bit v k ≡ S (64 * i + k)) → Filled S (set ws i v) (i + 1)
-filled_more S ws i v h f new = record { eight = simp length-set f.eight; words = λ j k l b. go j k l b (cases_eq j i) }
-  where
-    go : (j k : ℕ) → j < i + 1 → k < 64 → (j ≡ i) ⊎ (j ≡ i → ⊥) → bit (get_or (set ws i v) j 0) k ≡ S (64 * j + k)
-    go j k l b (inl e) =
-        let n = f.eight in
-        ap (λ (x : ℕ). bit (get_or (set ws i v) x 0) k) e ∙ ap (λ (x : ℕ). bit x k) (get_or-set_same ws i v 0 (omega arith))
-        ∙ new k b ∙ ap (λ (x : ℕ). S (64 * x + k)) (sym e)
-    go j k l b (inr ne) = ap (λ (x : ℕ). bit x k) (get_or-set_other ws i j v 0 ne) ∙ f.words j k (omega arith) b
+  pub made_held : IsFromFnResult g f ws 8 → ((m : ℕ) → 512 ≤ m → S m ≡ false) → held ws ≡ S
+  made_held all none = fun_ext (λ m. ⊎_elim (below m) (past m) (cases_lt m 512))
+    where
+      below : (m : ℕ) → m < 512 → held ws m ≡ S m
+      below m l = made_from 8 0 all.each (m / 64) (m % 64) (omega arith) (omega arith) (omega arith) ∙ ap S (let e : 64 * (m / 64) + m % 64 ≡ m = omega arith in e)
 
-pub filled_held : (S : Marks) (ws : List ℕ) (i : ℕ) → 8 ≤ i → Filled S ws i → ((m : ℕ) → 512 ≤ m → S m ≡ false) → held ws ≡ S
-filled_held S ws i all f none = fun_ext (λ m. go m (cases_lt m 512))
-  where
-    go : (m : ℕ) → (m < 512) ⊎ (512 ≤ m) → held ws m ≡ S m
-    go m (inl l) = f.words (m / 64) (m % 64) (omega arith) (omega arith) ∙ ap S (let e : 64 * (m / 64) + m % 64 ≡ m = omega arith in e)
-    go m (inr h) = let n = f.eight in held_past ws m (omega arith) ∙ sym (none m h)
+      past : (m : ℕ) → 512 ≤ m → held ws m ≡ S m
+      past m h = let n = all.long in held_past ws m (omega arith) ∙ sym (none m h)
 
 -- two sets with the same words hold the same
 pub same_held : (xs ys : List ℕ) (n : ℕ) → length xs ≤ n → length ys ≤ n → ((i : ℕ) → i < n → get_or xs i 0 ≡ get_or ys i 0) → held xs ≡ held ys
@@ -122,15 +123,14 @@ pub word_within : (a b k : ℕ) → b < 2 ^ 64 → k < 64 → bit_and a (2 ^ 64 
 word_within a b k hb hk z t = holds (go (bit a k) (bit b k) (is_true (bit a k) t) none)
   where
     none : (bit a k && not (bit b k)) ≡ false
-    none = ap (λ (x : Bool). bit a k && x) (sym (bit_not 64 b k hb hk)) ∙ sym (bit_of_and a (2 ^ 64 - 1 - b) k) ∙ ap (λ (x : ℕ). bit x k) z ∙ bit_zero k
+    none = ap (λ (x : Bool). bit a k && x) (sym (bit_not b k hb hk)) ∙ sym (bit_of_and a (2 ^ 64 - 1 - b) k) ∙ ap (λ (x : ℕ). bit x k) z ∙ bit_zero k
 
     go : (x y : Bool) → x ≡ true → (x && not y) ≡ false → y ≡ true
     go x y e f = grind (arith, nat_tests)
 
--- and where one does, it is not
-pub word_beyond : (a b : ℕ) → a < 2 ^ 64 → b < 2 ^ 64 → (bit_and a (2 ^ 64 - 1 - b) ≡ 0 → ⊥) → ((k : ℕ) → k < 64 → k ∈ bit a → k ∈ bit b) → ⊥
-word_beyond a b ha hb some within =
-    some (bits_eq 64 (bit_and a (2 ^ 64 - 1 - b)) 0 small (omega arith) (λ k h. here k h ∙ sym (bit_zero k)))
+-- and where every bit of a is one of b, none lies outside
+pub word_no_more : (a b : ℕ) → a < 2 ^ 64 → b < 2 ^ 64 → ((k : ℕ) → k < 64 → k ∈ bit a → k ∈ bit b) → bit_and a (2 ^ 64 - 1 - b) ≡ 0
+word_no_more a b ha hb within = bits_eq 64 (bit_and a (2 ^ 64 - 1 - b)) 0 small (omega arith) (λ k h. here k h ∙ sym (bit_zero k))
   where
     go : (x y : Bool) → (T x → T y) → T (x && not y) → ⊥
     go true true f t = t
@@ -142,7 +142,7 @@ word_beyond a b ha hb some within =
 
     here : (k : ℕ) → k < 64 → bit (bit_and a (2 ^ 64 - 1 - b)) k ≡ false
     here k h =
-        bit_of_and a (2 ^ 64 - 1 - b) k ∙ ap (λ (x : Bool). bit a k && x) (bit_not 64 b k hb h)
+        bit_of_and a (2 ^ 64 - 1 - b) k ∙ ap (λ (x : Bool). bit a k && x) (bit_not b k hb h)
         ∙ is_false (bit a k && not (bit b k)) (λ t. go (bit a k) (bit b k) (within k h) t)
 
 -- the marks from `from` to the end of its word are the digits of what is left of that word
@@ -159,7 +159,7 @@ module _ (ws : List ℕ) (from : ℕ) (small : get_or ws (from / 64) 0 < 2 ^ 64)
   lead_held =
       let n = get_or ws (from / 64) 0 / 2 ^ (from % 64) in
       let le = shr_le (get_or ws (from / 64) 0) (from % 64) in
-      trailing_at 64 n (trailing_some 64 n (omega arith) some)
+      trailing_at n some (omega arith)
 
   pub lead_inside : from % 64 + count_trailing_zeros 64 (get_or ws (from / 64) 0 / 2 ^ (from % 64)) < 64
   lead_inside =
@@ -180,13 +180,23 @@ module _ (ws : List ℕ) (from : ℕ) (small : get_or ws (from / 64) 0 < 2 ^ 64)
   lead_first k h l =
       let n = get_or ws (from / 64) 0 / 2 ^ (from % 64) in
       let i = lead_inside in
-      held_from ws from k h (omega arith) ∙ trailing_below 64 n (k - from) (omega arith)
+      held_from ws from k h (omega arith) ∙ trailing_below n some (omega arith) (k - from) (omega arith)
 
--- the words up to the next one hold as many more marks as its bits
-pub size_word : (ws : List ℕ) (i : ℕ) → get_or ws i 0 < 2 ^ 64 → size (64 * (i + 1)) (held ws) ≡ size (64 * i) (held ws) + ones (get_or ws i 0)
-size_word ws i h =
-    let e : 64 * (i + 1) ≡ 64 * i + 64 = omega arith in
-    ap (λ (n : ℕ). size n (held ws)) e ∙ size_add (64 * i) 64 (held ws)
-    ∙ ap (λ (x : ℕ). size (64 * i) (held ws) + x)
-    (size_same 64 (λ k. held ws (64 * i + k)) (bit (get_or ws i 0)) (held_word ws i)
-    ∙ sym (ones_size 64 (get_or ws i 0) h))
+-- words hold as many marks as they have ones
+pub ones_held : (ws : List ℕ) → ((i : ℕ) → get_or ws i 0 < 2 ^ 64) → sum_by ones ws ≡ size (64 * length ws) (held ws)
+unfolding size
+ones_held [] fits = refl
+ones_held (x ∷ xs) fits =
+    let n = length xs in
+    let e : 64 * length (x ∷ xs) ≡ 64 + 64 * n = omega arith in
+    sum_by-cons ones x xs
+    ∙ ap₂ (λ (a b : ℕ). a + b) (ones_size 64 x (fits 0) ∙ size_same 64 (bit x) (held (x ∷ xs)) front)
+    (ones_held xs (λ i. fits (suc i)) ∙ size_same (64 * n) (held xs) (λ k. held (x ∷ xs) (64 + k)) behind)
+    ∙ sym (ap (λ (w : ℕ). size w (held (x ∷ xs))) e ∙ size_add 64 (64 * n) (held (x ∷ xs)))
+  where
+    front : (k : ℕ) → k < 64 → bit x k ≡ held (x ∷ xs) k
+    front k l = sym (ap₂ (λ (i j : ℕ). bit (get_or (x ∷ xs) i 0) j) (let h : k / 64 ≡ 0 = omega arith in h) (let h : k % 64 ≡ k = omega arith in h))
+
+    behind : (k : ℕ) → k < 64 * length xs → held xs k ≡ held (x ∷ xs) (64 + k)
+    behind k l =
+        sym (ap₂ (λ (i j : ℕ). bit (get_or (x ∷ xs) i 0) j) (let h : (64 + k) / 64 ≡ suc (k / 64) = omega arith in h) (let h : (64 + k) % 64 ≡ k % 64 = omega arith in h))

@@ -4,3 +4,4 @@ pub mod Joins
 pub mod MarkSets
 pub mod Overlaps
 pub mod Refusals
+pub mod Sentences

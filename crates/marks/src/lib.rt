@@ -4,3 +4,4 @@
 pub mod overlap;
 pub mod refusal;
 pub mod set;
+pub mod width;

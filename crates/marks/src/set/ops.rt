@@ -1,26 +1,57 @@
 // The calls on a set of marks.
-ghost use Rattle.std.specs.Prelude.{◌≡◌, ◌<◌, ◌≤◌, IfSome, Decides, ◌≢◌};
+ghost use Rattle.std.specs.Prelude.{◌≡◌, ◌<◌, ◌≤◌, Any, IfSome, Decides, ◌≢◌};
 ghost use Rattle.marks.specs.MarkSets.{marks_of, BadWidth, IsSet, Unchanged};
+ghost use Rattle.marks.specs.Joins.{joined, BitOp, Computes};
 ghost use Rattle.marks.specs.Overlaps.{Overlaps};
 ghost use Rattle.marks.specs.Refusals.{Refuses, Gives, Test};
-ghost use Rattle.marks.specs.Sets.{◌⊆◌, no_marks, below, with_mark, without_mark, ◌∪◌, ◌∩◌, ◌∖◌, size, Next};
+ghost use Rattle.marks.specs.Sets.{◌⊆◌, no_marks, below, listed, with_mark, without_mark, ◌∪◌, ◌∩◌, ◌∖◌, size, Next};
 
 use super::MarkSet;
 use super::words::{
-    Join, count_marks, count_overlap, has_mark, join_words, next_mark, no_words, put_mark,
-    take_mark, words_below, words_same, words_within,
+    count_marks, count_overlap, has_mark, join_words, next_mark, no_words, put_mark, take_mark,
+    words_below, words_same, words_within,
 };
 use crate::overlap::Overlap;
 use crate::refusal::Refusal;
+use crate::width::check_width;
 
 impl MarkSet {
+    fn same_width(&self, other: &MarkSet) -> Result<(), Refusal>
+        ensures { Test (self.now.width ≢ other.now.width) (Refuses result 7) (Gives result (λ _. self.now.width ≡ other.now.width)) }
+    {
+        if self.width != other.width {
+            return Err(Refusal::Width);
+        }
+        Ok(())
+    }
+
+    fn join<F: Fn(u64, u64) -> u64>(&mut self, other: &MarkSet, op: F) -> Result<(), Refusal>
+        ghost by: { BitOp }
+        requires callable { F.IsAlwaysCallable op }
+        requires computes { Computes (F.post op) by.word }
+        ensures { Test (self.old.width ≢ other.now.width) (Refuses result 7 × Unchanged self.old self.new) (Gives result (λ _. IsSet self.new self.old.width (joined by.on (marks_of self.old) (marks_of other.now)))) }
+    {
+        self.same_width(other)?;
+        self.words = join_words(&self.words, &other.words, op);
+        Ok(())
+    }
+
+    // Puts the marks into a set that holds none.
+    fn fill(&mut self, marks: &[u16]) -> Result<(), Refusal>
+        requires { marks_of self.old ≡ no_marks }
+        ensures { Test (Any (λ m. self.old.width ≤ m) marks.now) (Refuses result 9) (Gives result (λ _. IsSet self.new self.old.width (listed marks.now))) }
+    {
+        for m in marks {
+            self.insert(*m)?;
+        }
+        Ok(())
+    }
+
     // The set of no marks.
     pub fn empty(width: u16) -> Result<MarkSet, Refusal>
         ensures { Test (BadWidth width) (Refuses result 7) (Gives result (λ s. IsSet s width no_marks)) }
     {
-        if width < 1 || width > 512 {
-            return Err(Refusal::Width);
-        }
+        check_width(width)?;
         Ok(MarkSet {
             width,
             words: no_words(),
@@ -31,13 +62,20 @@ impl MarkSet {
     pub fn full(width: u16) -> Result<MarkSet, Refusal>
         ensures { Test (BadWidth width) (Refuses result 7) (Gives result (λ s. IsSet s width (below width))) }
     {
-        if width < 1 || width > 512 {
-            return Err(Refusal::Width);
-        }
+        check_width(width)?;
         Ok(MarkSet {
             width,
             words: words_below(width),
         })
+    }
+
+    // The set of these marks, in any order and as often as they come.
+    pub fn of(width: u16, marks: &[u16]) -> Result<MarkSet, Refusal>
+        ensures { Test (BadWidth width) (Refuses result 7) (Test (Any (λ m. width ≤ m) marks.now) (Refuses result 9) (Gives result (λ s. IsSet s width (listed marks.now)))) }
+    {
+        let mut set = MarkSet::empty(width)?;
+        set.fill(marks)?;
+        Ok(set)
     }
 
     // Whether the set holds the mark; at or above the width the answer is no.
@@ -73,42 +111,28 @@ impl MarkSet {
     pub fn union_with(&mut self, other: &MarkSet) -> Result<(), Refusal>
         ensures { Test (self.old.width ≢ other.now.width) (Refuses result 7 × Unchanged self.old self.new) (Gives result (λ _. IsSet self.new self.old.width (marks_of self.old ∪ marks_of other.now))) }
     {
-        if self.width != other.width {
-            return Err(Refusal::Width);
-        }
-        self.words = join_words(Join::Union, &self.words, &other.words);
-        Ok(())
+        self.join(other, |a, b| a | b)
     }
 
     // Keeps the marks that the other set holds too.
     pub fn intersect_with(&mut self, other: &MarkSet) -> Result<(), Refusal>
         ensures { Test (self.old.width ≢ other.now.width) (Refuses result 7 × Unchanged self.old self.new) (Gives result (λ _. IsSet self.new self.old.width (marks_of self.old ∩ marks_of other.now))) }
     {
-        if self.width != other.width {
-            return Err(Refusal::Width);
-        }
-        self.words = join_words(Join::Intersection, &self.words, &other.words);
-        Ok(())
+        self.join(other, |a, b| a & b)
     }
 
     // Takes out the marks of the other set.
     pub fn subtract(&mut self, other: &MarkSet) -> Result<(), Refusal>
         ensures { Test (self.old.width ≢ other.now.width) (Refuses result 7 × Unchanged self.old self.new) (Gives result (λ _. IsSet self.new self.old.width (marks_of self.old ∖ marks_of other.now))) }
     {
-        if self.width != other.width {
-            return Err(Refusal::Width);
-        }
-        self.words = join_words(Join::Difference, &self.words, &other.words);
-        Ok(())
+        self.join(other, |a, b| a & !b)
     }
 
     // Whether every mark of the set is one of the other's.
     pub fn is_subset(&self, other: &MarkSet) -> Result<bool, Refusal>
         ensures { Test (self.now.width ≢ other.now.width) (Refuses result 7) (Gives result (λ b. Decides b (marks_of self.now ⊆ marks_of other.now))) }
     {
-        if self.width != other.width {
-            return Err(Refusal::Width);
-        }
+        self.same_width(other)?;
         Ok(words_within(&self.words, &other.words))
     }
 
@@ -116,9 +140,7 @@ impl MarkSet {
     pub fn same_marks(&self, other: &MarkSet) -> Result<bool, Refusal>
         ensures { Test (self.now.width ≢ other.now.width) (Refuses result 7) (Gives result (λ b. Decides b (marks_of self.now ≡ marks_of other.now))) }
     {
-        if self.width != other.width {
-            return Err(Refusal::Width);
-        }
+        self.same_width(other)?;
         Ok(words_same(&self.words, &other.words))
     }
 
@@ -141,9 +163,7 @@ impl MarkSet {
     pub fn overlap(&self, other: &MarkSet) -> Result<Overlap, Refusal>
         ensures { Test (self.now.width ≢ other.now.width) (Refuses result 7) (Gives result (Overlaps self.now.width (below self.now.width) (marks_of self.now) (marks_of other.now))) }
     {
-        if self.width != other.width {
-            return Err(Refusal::Width);
-        }
+        self.same_width(other)?;
         Ok(count_overlap(&self.words, &other.words, self.width))
     }
 }

@@ -1,7 +1,7 @@
 // The words of a set: a mark put in or taken out, two sets joined, compared or searched, word by word.
 ghost use Rattle.std.specs.Prelude.{◌≡◌, ℕ, ◌+◌, ◌*◌, ◌<◌, ◌≤◌, IfSome, Decides, nat_lt};
 ghost use Rattle.marks.specs.Sets.{◌⊆◌, no_marks, below, OfWidth, with_mark, without_mark, size, Next};
-ghost use Rattle.marks.specs.Joins.{joined};
+ghost use Rattle.marks.specs.Joins.{joined, BitOp, Computes};
 ghost use Rattle.marks.specs.Overlaps.{Overlaps};
 ghost use Rattle.marks.specs.Words.{bit, held};
 
@@ -36,18 +36,15 @@ pub(super) fn words_below(width: u16) -> [u64; 8]
     ensures marks { held result ≡ below width }
     ensures inside { OfWidth width (held result) }
 {
-    let mut words = [0; 8];
-    for i in 0..8 {
-        words[i] = word_below(width, i);
-    }
-    words
+    std::array::from_fn(|i| word_below(width, i))
 }
 
 pub(super) fn has_mark(words: &[u64; 8], m: u16) -> bool
     ensures { result ≡ held words.now m }
 {
-    let i = m / 64;
-    i < 8 && words[i as usize] >> (m % 64) & 1 == 1
+    words
+        .get((m / 64) as usize)
+        .is_some_and(|w| w >> (m % 64) & 1 == 1)
 }
 
 pub(super) fn put_mark(words: &mut [u64; 8], m: u16)
@@ -66,55 +63,27 @@ pub(super) fn take_mark(words: &mut [u64; 8], m: u16)
     words[(m / 64) as usize] &= !(1 << (m % 64));
 }
 
-// How two sets are joined.
-#[derive(Clone, Copy)]
-pub(super) enum Join {
-    Union,
-    Intersection,
-    Difference,
-}
-
-fn join_word(how: Join, a: u64, b: u64) -> u64
-    ensures { (k : ℕ) → k < 64 → bit result k ≡ joined how (bit a) (bit b) k }
-{
-    match how {
-        Join::Union => a | b,
-        Join::Intersection => a & b,
-        Join::Difference => a & !b,
-    }
-}
-
-pub(super) fn join_words(how: Join, a: &[u64; 8], b: &[u64; 8]) -> [u64; 8]
-    ensures marks { held result ≡ joined how (held a.now) (held b.now) }
+// Two sets joined word by word, by an operation that does `by.on` with each bit.
+pub(super) fn join_words<F: Fn(u64, u64) -> u64>(a: &[u64; 8], b: &[u64; 8], op: F) -> [u64; 8]
+    ghost by: { BitOp }
+    requires callable { F.IsAlwaysCallable op }
+    requires computes { Computes (F.post op) by.word }
+    ensures marks { held result ≡ joined by.on (held a.now) (held b.now) }
     ensures inside { (w : ℕ) → OfWidth w (held a.now) → OfWidth w (held b.now) → OfWidth w (held result) }
 {
-    let mut out = [0; 8];
-    for i in 0..8 {
-        out[i] = join_word(how, a[i], b[i]);
-    }
-    out
+    std::array::from_fn(|i| op(a[i], b[i]))
 }
 
 pub(super) fn words_within(a: &[u64; 8], b: &[u64; 8]) -> bool
     ensures { Decides result (held a.now ⊆ held b.now) }
 {
-    for i in 0..8 {
-        if a[i] & !b[i] != 0 {
-            return false;
-        }
-    }
-    true
+    a.iter().zip(b).all(|(x, y)| x & !y == 0)
 }
 
 pub(super) fn words_same(a: &[u64; 8], b: &[u64; 8]) -> bool
     ensures { Decides result (held a.now ≡ held b.now) }
 {
-    for i in 0..8 {
-        if a[i] != b[i] {
-            return false;
-        }
-    }
-    true
+    a == b
 }
 
 // The lowest mark at or after `at`, found by the zeros below it in its word.
@@ -141,23 +110,7 @@ pub(super) fn count_marks(words: &[u64; 8], width: u16) -> u16
     requires inside { OfWidth width (held words.now) }
     ensures { result ≡ size width (held words.now) }
 {
-    let mut n = 0;
-    for w in words {
-        n += w.count_ones() as u16;
-    }
-    n
-}
-
-// The share of one word; `used` has the marks in use.
-fn overlap_word(a: u64, b: u64, used: u64) -> Overlap
-    ensures { Overlaps 64 (bit used) (bit a) (bit b) result }
-{
-    Overlap {
-        both: (a & b).count_ones() as u16,
-        neither: (used & !(a | b)).count_ones() as u16,
-        first: (a & !b).count_ones() as u16,
-        second: (b & !a).count_ones() as u16,
-    }
+    words.iter().map(|w| w.count_ones() as u16).sum()
 }
 
 // How the marks below the width are shared out, by the ones of the two sets' words combined.
@@ -167,18 +120,12 @@ pub(super) fn count_overlap(a: &[u64; 8], b: &[u64; 8], width: u16) -> Overlap
     requires second { OfWidth width (held b.now) }
     ensures { Overlaps width (below width) (held a.now) (held b.now) result }
 {
-    let mut total = Overlap {
-        both: 0,
-        neither: 0,
-        first: 0,
-        second: 0,
-    };
-    for i in 0..8 {
-        let word = overlap_word(a[i], b[i], word_below(width, i));
-        total.both += word.both;
-        total.neither += word.neither;
-        total.first += word.first;
-        total.second += word.second;
+    let less = |x: u64, y: u64| x & !y;
+    let either = join_words(a, b, |x, y| x | y);
+    Overlap {
+        both: count_marks(&join_words(a, b, |x, y| x & y), width),
+        neither: count_marks(&join_words(&words_below(width), &either, less), width),
+        first: count_marks(&join_words(a, b, less), width),
+        second: count_marks(&join_words(b, a, less), width),
     }
-    total
 }
