@@ -3,6 +3,7 @@ use crate::made::{fare, list, refused, term};
 use lines::admission::Admission;
 use lines::bar::Bar;
 use lines::check::check_records;
+use lines::fare::MOST_FARES;
 use lines::list::MarkList;
 use lines::pass::pass;
 use lines::term::Kind;
@@ -13,8 +14,8 @@ use std::test::Fail;
 #[test]
 fn limits(rt: HostRuntime) {
     let line = fare(8, list(&[]), list(&[]));
-    assert!(rt; check_records(&[line; 1024], 1024, 9).is_ok());
-    assert!(rt; refused(check_records(&[line; 1025], 1024, 9), 8));
+    assert!(rt; check_records(&[line; 1024], MOST_FARES, 9).is_ok());
+    assert!(rt; refused(check_records(&[line; 1025], MOST_FARES, 9), 8));
     let marks = [0, 1, 2, 3, 4, 5, 6, 8];
     let eight = MarkList { count: 8, marks };
     let nine = MarkList { count: 9, marks };

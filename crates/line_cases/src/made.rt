@@ -33,6 +33,6 @@ pub(crate) fn term(kind: Kind, head: u16, conditions: MarkList) -> TermLine {
 }
 
 // Whether the call was refused with that number.
-pub(crate) fn refused<T: Drop>(r: Result<T, Refusal>, number: u8) -> bool {
+pub(crate) fn refused(r: Result<(), Refusal>, number: u8) -> bool {
     r.is_err_and(|why| why.number() == number)
 }

@@ -1,16 +1,20 @@
 -- A pass in memory, line by line.
-use Rattle.std.proofs.Common.{◌≡◌, ℕ, ◌<◌, Bool, true, false, not, ◌&&◌, ◌||◌, List, [], ◌∷◌, is_some, Some, Decides, Option, sym, refl, ap, ◌∙◌, subst, ap₂}
+use Rattle.std.proofs.Common.{◌≡◌, ℕ, ◌<◌, ◌≤◌, Bool, true, false, not, ◌&&◌, ◌||◌, List, [], ◌∷◌, is_some, Some, Ok, Err, Result, is_ok, Decides, Option, sym, refl, ap, ◌∙◌, subst, ap₂, inl, inr, arith}
 use mathlib.Core.Bool.{or_assoc, or-false}
 use Rattle.std.proofs.lemmas.Bool.{false≢true}
 use Rattle.marks.specs.declared.set.MarkSet.{MarkSet}
-use Rattle.marks.specs.MarkSets.{marks_of, IsSet}
+use Rattle.marks.specs.declared.refusal.Refusal.{Refusal}
+use Rattle.marks.specs.MarkSets.{marks_of, IsSet, Unchanged}
+use Rattle.marks.specs.Refusals.{Refuses, Gives, Test}
+use Rattle.marks.specs.Words.{held}
 use Rattle.marks.specs.Sets.{Marks, ◌∈◌, ◌⊆◌, with_mark}
 use Rattle.marks.proofs.Sets.{same_sets, equal_within}
 use Rattle.readings.proofs.Sets.{with_new}
 use Rattle.lines.specs.declared.pass.Passed.{Passed}
 use Rattle.lines.specs.Passes.{View, fires, brought, swept, stood}
+use Rattle.lines.specs.Passes.{stood as stood_at}
 use Rattle.lines.specs.Passes.{Passes}
-use Rattle.lines.proofs.Turns.{brought_new, brought_grows}
+use Rattle.lines.proofs.Turns.{brought_new, brought_past, brought_grows}
 
 -- a line that has a head adds nothing to what stood
 head_silent : (o : Option ℕ) (m : ℕ) (b : Bool) → o ≡ Some m → ((not (is_some o) && b) || false) ≡ false
@@ -28,6 +32,35 @@ passes_new v before after m head new below fire after_is =
       stood = sym (head_silent v.head m (fires v S) head);
     }
 
+-- a turn whose head is no mark of the width
+passes_past : (v : View) (before after : MarkSet) (m : ℕ) → v.head ≡ Some m → before.width ≤ m → Unchanged before after
+    → Passes (v ∷ []) before after (record { added = false; stood = false })
+passes_past v before after m head past same =
+    let S = marks_of before in
+    let marks : marks_of after ≡ S = ap held same.words in
+    record {
+      set = record { width = same.width; marks = marks ∙ sym (brought_past before.width v S m head past) };
+      added = ((λ _. marks), λ _. refl);
+      stood = sym (head_silent v.head m (fires v S) head);
+    }
+
+-- a turn that inserts a new head; r is what `insert` answers
+pub passes_insert : (v : View) (before after : MarkSet) (m : ℕ) (r : Result (Unit {0}) Refusal) (added stood : Bool)
+    → v.head ≡ Some m → (m ∈ marks_of before → ⊥) → fires v (marks_of before) ≡ true
+    → Test (before.width ≤ m) (Refuses r 9 × Unchanged before after) (Gives r (λ _. IsSet after before.width (with_mark (marks_of before) m)))
+    → added ≡ is_ok r → stood ≡ false → Passes (v ∷ []) before after (record { added = added; stood = stood })
+passes_insert v before after m (Ok u) added stood head new fire (inl refused) a s = absurd refused.1.0
+passes_insert v before after m (Ok u) added stood head new fire (inr done) a s =
+    let below : m < before.width = omega (arith, done.0) in
+    let p = passes_new v before after m head new below fire done.1 in
+    subst (λ (b : Bool). Passes (v ∷ []) before after (record { added = b; stood = stood })) (sym a)
+    (subst (λ (b : Bool). Passes (v ∷ []) before after (record { added = true; stood = b })) (sym s) p)
+passes_insert v before after m (Err f) added stood head new fire (inl refused) a s =
+    let p = passes_past v before after m head refused.0 refused.1.1 in
+    subst (λ (b : Bool). Passes (v ∷ []) before after (record { added = b; stood = stood })) (sym a)
+    (subst (λ (b : Bool). Passes (v ∷ []) before after (record { added = false; stood = b })) (sym s) p)
+passes_insert v before after m (Err f) added stood head new fire (inr done) a s = absurd done.1
+
 -- a pass that has come to the lines `rest` of `all`, from the set `start` to the set `here`
 pub record Going (all rest : List View) (start here : MarkSet) (added denied : Bool) : Type 0 where
   pub width : here.width ≡ start.width
@@ -36,8 +69,15 @@ pub record Going (all rest : List View) (start here : MarkSet) (added denied : B
   pub grown : marks_of start ⊆ marks_of here
   pub same : Decides (not added) (marks_of here ≡ marks_of start)
 
-pub going_none : (vs : List View) (s : MarkSet) → Going vs vs s s false false
-going_none vs s = record { width = refl; set = refl; stands = refl; grown = λ m t. t; same = ((λ _. refl), λ _. refl) }
+pub going_none : (vs : List View) (s : MarkSet) (added stood : Bool) → added ≡ false → stood ≡ false → Going vs vs s s added stood
+going_none vs s added stood a d =
+    record {
+      width = refl;
+      set = refl;
+      stands = ap (λ (b : Bool). b || stood_at s.width vs (marks_of s)) d;
+      grown = λ m t. t;
+      same = ((λ _. refl), λ _. ap not a);
+    }
 
 -- nothing was added in two steps exactly when nothing was in either
 same_both : (a b : Bool) (X Y Z : Marks) → X ⊆ Y → Y ⊆ Z → Decides (not a) (Y ≡ X) → Decides (not b) (Z ≡ Y) → Decides (not (a || b)) (Z ≡ X)

@@ -4,3 +4,4 @@ pub mod Passing
 pub mod Going
 pub mod Admitting
 pub mod Meaning
+pub mod Told

@@ -18,15 +18,6 @@ module _ (w : ℕ) (v : View) (S : Marks) where
   pub brought_headless : v.head ≡ None → brought w v S ≡ S
   brought_headless e = brought_as None e ∙ cond_same (fires v S) S
 
-  pub brought_idle : fires v S ≡ false → brought w v S ≡ S
-  brought_idle e = cond-false (fires v S) (with_head w v.head S) S e
-
-  pub brought_there : (m : ℕ) → v.head ≡ Some m → m ∈ S → brought w v S ≡ S
-  brought_there m e h =
-      brought_as (Some m) e
-      ∙ ap (λ (X : Marks). cond (fires v S) (cond (ltb m w) X S) S) (with_there S m h)
-      ∙ ap (λ (X : Marks). cond (fires v S) X S) (cond_same (ltb m w) S) ∙ cond_same (fires v S) S
-
   pub brought_past : (m : ℕ) → v.head ≡ Some m → w ≤ m → brought w v S ≡ S
   brought_past m e h =
       brought_as (Some m) e ∙ ap (λ (X : Marks). cond (fires v S) X S) (cond-false (ltb m w) (with_mark S m) S (le-ltb m w h))

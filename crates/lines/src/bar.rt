@@ -6,6 +6,9 @@ use crate::check::Record;
 use crate::line::Line;
 use marks::set::MarkSet;
 
+// How many bars there may be at most.
+pub const MOST_BARS: usize = 32;
+
 // Two marks that never hold together, the lower first.
 #[derive(Clone, Copy, Debug, Default, PartialEq)]
 pub struct Bar {

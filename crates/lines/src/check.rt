@@ -19,12 +19,7 @@ pub trait Record {
 fn all_lawful<R: Record>(records: &[R], width: u16) -> bool
     ensures { Decides result (AllByRecursion (R.Record.lawful width) records.now) }
 {
-    for record in records {
-        if !record.is_lawful(width) {
-            return false;
-        }
-    }
-    true
+    records.iter().all(|record| record.is_lawful(width))
 }
 
 // Refused exactly when there are more than `most` records or one of them is not lawful for the width.

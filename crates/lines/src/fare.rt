@@ -4,6 +4,9 @@ ghost use Rattle.lines.specs.Lawful.{LawfulFare};
 use crate::check::Record;
 use crate::list::MarkList;
 
+// How many fare lines there may be at most.
+pub const MOST_FARES: usize = 1024;
+
 // The head follows if all conditions hold, unless one of the unless-marks does.
 #[derive(Clone, Copy, Debug, Default, PartialEq)]
 pub struct FareLine {

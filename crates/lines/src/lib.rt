@@ -9,6 +9,5 @@ pub mod fare;
 pub mod line;
 pub mod list;
 pub mod pass;
-mod places;
 pub mod term;
 pub mod theorems;

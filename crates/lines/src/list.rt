@@ -3,12 +3,11 @@ ghost use Rattle.std.specs.Prelude.{◌≡◌, Decides};
 ghost use Rattle.marks.specs.MarkSets.{marks_of};
 ghost use Rattle.readings.specs.Computed.{has_all, has_none};
 ghost use Rattle.lines.specs.Equal.{SameList, lists_equal};
-ghost use Rattle.lines.specs.Lawful.{LawfulList};
+ghost use Rattle.lines.specs.Lawful.{AllBelow, Ascends, LawfulList};
 ghost use Rattle.lines.specs.Records.{used};
 ghost use Rattle.std.specs.Cmp.Rules.{comparing};
 ghost use Rattle.std.proofs.Common.{rules};
 
-use crate::places::{ascend_below, front, has_all, has_none, same};
 use marks::set::MarkSet;
 
 // The first `count` places are used; what stands in the others never matters.
@@ -18,33 +17,46 @@ pub struct MarkList {
     pub marks: [u16; 8],
 }
 
+fn ascend(marks: &[u16]) -> bool
+    ensures { Decides result (Ascends marks.now) }
+{
+    marks.is_sorted_by(|a, b| *a < *b)
+}
+
+fn all_below(marks: &[u16], width: u16) -> bool
+    ensures { Decides result (AllBelow width marks.now) }
+{
+    marks.iter().all(|m| *m < width)
+}
+
 impl MarkList {
     // The used places; all eight where the count is greater.
     pub fn used(&self) -> &[u16]
         ensures { result.now ≡ used self.now }
     {
-        front(&self.marks, self.count)
+        let n = self.count.min(8) as usize;
+        &self.marks[..n]
     }
 
     // Whether the list is lawful for the width.
     pub fn is_lawful(&self, width: u16) -> bool
         ensures { Decides result (LawfulList width self.now) }
     {
-        self.count <= 8 && ascend_below(self.used(), width)
+        self.count <= 8 && ascend(self.used()) && all_below(self.used(), width)
     }
 
     // Whether the set holds all marks of the list.
     pub fn all_in(&self, set: &MarkSet) -> bool
         ensures { result ≡ has_all (used self.now) (marks_of set.now) }
     {
-        has_all(self.used(), set)
+        self.used().iter().all(|m| set.contains(*m))
     }
 
     // Whether the set holds none of the marks of the list.
     pub fn none_in(&self, set: &MarkSet) -> bool
         ensures { result ≡ has_none (used self.now) (marks_of set.now) }
     {
-        has_none(self.used(), set)
+        !self.used().iter().any(|m| set.contains(*m))
     }
 }
 
@@ -58,6 +70,6 @@ impl PartialEq for MarkList {
         ensures value { result ≡ lists_equal self.now other.now }
         ensures same { Decides result (SameList self.now other.now) }
     {
-        self.count == other.count && same(self.used(), other.used())
+        self.count == other.count && self.used() == other.used()
     }
 }

@@ -7,7 +7,7 @@ use crate::line::Line;
 use marks::set::MarkSet;
 
 // What a pass met.
-#[derive(Clone, Copy, Debug, PartialEq)]
+#[derive(Clone, Copy, Debug, Default, PartialEq, Eq)]
 pub struct Passed {
     // a mark was added to the set
     pub added: bool,
@@ -26,41 +26,30 @@ fn bring<G, L: Line<G>>(line: &L, gate: &G, set: &mut MarkSet) -> Passed
     ensures { Passes (L.Line.view gate.now line.now ∷ []) set.old set.new result }
 {
     let Some(m) = line.brings() else {
-        let stood = fired(line, gate, set);
         return Passed {
-            added: false,
-            stood,
+            stood: fired(line, gate, set),
+            ..Passed::default()
         };
     };
     if set.contains(m) || !fired(line, gate, set) {
-        return Passed {
-            added: false,
-            stood: false,
-        };
+        return Passed::default();
     }
-    match set.insert(m) {
-        Ok(()) => Passed {
-            added: true,
-            stood: false,
-        },
-        Err(_) => Passed {
-            added: false,
-            stood: false,
-        },
+    Passed {
+        added: set.insert(m).is_ok(),
+        ..Passed::default()
     }
 }
 
 fn sweep<G, L: Line<G>>(lines: &[L], gate: &G, set: &mut MarkSet) -> Passed
     ensures { Passes (map (L.Line.view gate.now) lines.now) set.old set.new result }
 {
-    let mut added = false;
-    let mut stood = false;
+    let mut passed = Passed::default();
     for line in lines {
         let one = bring(line, gate, set);
-        added |= one.added;
-        stood |= one.stood;
+        passed.added |= one.added;
+        passed.stood |= one.stood;
     }
-    Passed { added, stood }
+    passed
 }
 
 // Goes through the lines once, in their order, and brings in each whose conditions stand at the set as it then is.

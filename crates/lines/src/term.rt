@@ -12,6 +12,9 @@ use crate::line::Line;
 use crate::list::MarkList;
 use marks::set::MarkSet;
 
+// How many term lines there may be at most.
+pub const MOST_TERMS: usize = 512;
+
 // What a term line says of its conditions.
 #[derive(Clone, Copy, Debug, Default, PartialEq)]
 pub enum Kind {

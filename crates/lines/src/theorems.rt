@@ -12,18 +12,22 @@ pub fn equal_when_same()
     ensures bars { (a b : Bar) → Decides (⟦<Bar as PartialEq>⟧.eq a b) (SameBar a b) }
 {}
 
+#[tactic(auto, using(crate::proofs::Meaning::equal_means_same))]
 pub fn equal_means_same()
     ensures { EqualMeansSame }
 {}
 
+#[tactic(auto, using(crate::proofs::Meaning::lawful_lines_fit))]
 pub fn lawful_lines_fit()
     ensures { LawfulLinesFit }
 {}
 
+#[tactic(auto, using(crate::proofs::Admitting::admission_stands))]
 pub fn admission_stands()
     ensures { AdmissionStands }
 {}
 
+#[tactic(auto, using(crate::proofs::Passing::passes_stand))]
 pub fn passes_stand()
     ensures { PassesStand }
 {}

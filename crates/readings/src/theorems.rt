@@ -4,11 +4,13 @@ ghost use Rattle.readings.specs.Theorems.{FirstMethodFindsIt, MethodsAgree, Meth
 ghost use Rattle.readings.specs.Theorems.{SaysOneThing, YieldsExistOnce, YieldsFall};
 
 // Every set has exactly one full yield and exactly one guarded yield.
+#[tactic(auto, using(crate::proofs::Statements::yields_exist_once))]
 pub fn yields_exist_once()
     ensures { Always YieldsExistOnce }
 {}
 
 // Both yields fall as the set grows, and the guarded lies within the full.
+#[tactic(auto, using(crate::proofs::Statements::yields_fall))]
 pub fn yields_fall()
     ensures { Always YieldsFall }
 {}
@@ -19,21 +21,25 @@ pub fn one_least_reading()
 {}
 
 // The first method comes closer with every round, and where it rests is the least reading.
+#[tactic(auto, using(crate::proofs::Statements::first_method_finds_it))]
 pub fn first_method_finds_it()
     ensures { Always FirstMethodFindsIt }
 {}
 
 // The second method goes through the same pair in every round; so both give the same reading, verdict and rounds.
+#[tactic(auto, using(crate::proofs::Statements::methods_agree))]
 pub fn methods_agree()
     ensures { Always MethodsAgree }
 {}
 
 // Each method stops, at one pair, after one number of rounds: at most the width and 2.
+#[tactic(auto, using(crate::proofs::Statements::methods_stop))]
 pub fn methods_stop()
     ensures { Always MethodsStop }
 {}
 
 // What holds is in every sound reading, what is not is in none, and broken facts have none.
+#[tactic(auto, using(crate::proofs::Statements::answers_are_sound))]
 pub fn answers_are_sound()
     ensures { Always AnswersAreSound }
 {}
@@ -49,6 +55,7 @@ pub fn bare_book_is_well_founded()
 {}
 
 // Each mark has exactly one answer, and the facts have exactly one verdict.
+#[tactic(auto, using(crate::proofs::Statements::says_one_thing))]
 pub fn says_one_thing()
     ensures { Always SaysOneThing }
 {}
