@@ -62,12 +62,18 @@ pub(crate) fn mark_list(marks: &str) -> anyhow::Result<MarkList> {
         return Ok(list);
     }
     for word in marks.split(',') {
-        let mark = number(word)?;
-        if let Some(place) = list.marks.get_mut(list.count as usize) {
-            *place = mark;
-        }
-        let count = list.count.checked_add(1);
-        list.count = count.context("a list has at most 255 marks")?;
+        add_mark(&mut list, number(word)?)?;
     }
     Ok(list)
+}
+
+fn add_mark(list: &mut MarkList, mark: u16) -> anyhow::Result<()> {
+    let count = list.count;
+    if let Some(place) = list.marks.get_mut(count as usize) {
+        *place = mark;
+    }
+    list.count = count
+        .checked_add(1)
+        .context("a list has at most 255 marks")?;
+    Ok(())
 }
