@@ -84,9 +84,6 @@ bits_eq n a b ha hb same = same_from_bits_below n a b ha hb one
 
 -- the lowest bit that is set is the count of the zeros below it
 module _ (n : ℕ) (some : 0 < n) (h : n < 2 ^ 64) where
-  pub trailing_some : count_trailing_zeros 64 n < 64
-  trailing_some = (bit_at-trailing_zeros w64 n some h).0
-
   pub trailing_at : bit n (count_trailing_zeros 64 n) ≡ true
   trailing_at = bit_is n (count_trailing_zeros 64 n) 1 (bit_at-trailing_zeros w64 n some h).1
 

@@ -37,6 +37,13 @@ equal_within e m t = subst (λ (X : Marks). m ∈ X) e t
 pub past_width : (w : ℕ) (S : Marks) → OfWidth w S → (m : ℕ) → w ≤ m → S m ≡ false
 past_width w S inside m h = is_false (S m) (λ t. let l : m < w = ltb→lt m w (inside m t) in omega arith)
 
+pub part_inside : (w : ℕ) (S S' : Marks) → OfWidth w S → OfWidth w (S ∩ S')
+part_inside w S S' f m = go (S m) (f m)
+  where
+    go : (b : Bool) → (T b → m ∈ below w) → T (b && S' m) → m ∈ below w
+    go true f t = f tt
+    go false f t = absurd t
+
 pub with_inside : (w : ℕ) (S : Marks) (k : ℕ) → k < w → OfWidth w S → OfWidth w (with_mark S k)
 with_inside w S k l inside m = go (eqb m k) (eqb→eq m k)
   where
@@ -65,14 +72,6 @@ joined_inside on none w S S' f g m = go (S m) (S' m) (f m) (g m)
     go true b f g t = f tt
     go false true f g t = g tt
     go false false f g t = absurd (fails none t)
-
--- a set cut down by a test
-pub part_inside : (w : ℕ) (S S' : Marks) → OfWidth w S → OfWidth w (S ∩ S')
-part_inside w S S' f m = go (S m) (f m)
-  where
-    go : (b : Bool) → (T b → m ∈ below w) → T (b && S' m) → m ∈ below w
-    go true f t = f tt
-    go false f t = absurd t
 
 -- a mark that is there already
 pub with_there : (S : Marks) (k : ℕ) → k ∈ S → with_mark S k ≡ S

@@ -1,11 +1,11 @@
 -- How many marks of a set lie below a bound.
-use Rattle.std.proofs.Common.{◌≡◌, ℕ, zero, suc, ◌+◌, ◌-◌, ◌/◌, ◌%◌, ◌^◌, ◌<◌, ◌≤◌, Bool, false, cond, eqb, sym, refl, ap, ◌∙◌, ap₂, add-zero, add_assoc, add-suc, pow-suc, zero-add, add-one, one-add, arith}
+use Rattle.std.proofs.Common.{◌≡◌, ℕ, zero, suc, ◌+◌, ◌-◌, ◌/◌, ◌%◌, ◌^◌, ◌<◌, ◌≤◌, Bool, false, cond, eqb, sym, refl, ap, ◌∙◌, ap₂, add-zero, add_assoc, add-suc, pow-suc, zero-add, one-add, arith}
 use lib.Count.{ones, ones_step}
 use Rattle.std.proofs.lemmas.Bool.{cond_both}
-use Rattle.marks.specs.Sets.{Marks, ◌∈◌, size, Lowest}
+use Rattle.marks.specs.Sets.{Marks, ◌∈◌, size}
 use Rattle.marks.specs.Words.{bit}
 use Rattle.marks.proofs.Bits.{bit_low, bit_suc}
-use Rattle.marks.proofs.Sets.{is_true, is_false}
+use Rattle.marks.proofs.Sets.{is_false}
 
 pub size_le : (w : ℕ) (S : Marks) → size w S ≤ w
 unfolding size
@@ -27,7 +27,7 @@ size_add a (suc b) S =
     ap (λ (w : ℕ). size w S) (add-suc a b) ∙ ap (λ (x : ℕ). x + cond (S (a + b)) 1 0) (size_add a b S)
     ∙ add_assoc (size a S) (size b (λ k. S (a + k))) (cond (S (a + b)) 1 0)
 
-pub size_none : (w : ℕ) (S : Marks) → ((k : ℕ) → k < w → S k ≡ false) → size w S ≡ 0
+size_none : (w : ℕ) (S : Marks) → ((k : ℕ) → k < w → S k ≡ false) → size w S ≡ 0
 unfolding size
 size_none zero S h = refl
 size_none (suc w) S h =
@@ -40,13 +40,6 @@ size_gap a w S h none =
     let z : size (w - a) (λ k. S (a + k)) ≡ 0 =
     size_none (w - a) (λ k. S (a + k)) (λ k l. is_false (S (a + k)) (none (a + k) (omega arith) (omega arith))) in
     ap (λ (n : ℕ). size n S) (sym e) ∙ size_add a (w - a) S ∙ omega arith
-
--- the next mark is one more
-pub size_next : (S : Marks) (from m : ℕ) → Lowest S from m → size (m + 1) S ≡ size from S + 1
-unfolding size
-size_next S from m low =
-    ap (λ (n : ℕ). size n S) (add-one m)
-    ∙ ap₂ (λ (x : ℕ) (b : Bool). x + cond b 1 0) (size_gap from m S low.after low.first) (is_true (S m) low.held)
 
 -- the set bits of a number below 2 ^ n, counted by the machine and one by one
 pub ones_size : (n v : ℕ) → v < 2 ^ n → ones v ≡ size n (bit v)

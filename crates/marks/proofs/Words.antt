@@ -12,7 +12,7 @@ use Rattle.std.specs.Array.{IsFromFnResult, IsFromFnResultFrom}
 use denote.Param.Members.{Mut, Called}
 use Rattle.marks.specs.Sets.{Marks, ◌∈◌, no_marks, with_mark, without_mark, size}
 use Rattle.marks.specs.Words.{bit, held}
-use Rattle.marks.proofs.Bits.{bit_zero, bit_of_and, bit_of_or, bit_pow, bit_not, bit_shr, bit_high, bits_eq, trailing_at, trailing_below, trailing_some}
+use Rattle.marks.proofs.Bits.{bit_zero, bit_of_and, bit_of_or, bit_pow, bit_not, bit_shr, bit_high, bits_eq, trailing_at, trailing_below}
 use Rattle.marks.proofs.Sets.{holds, is_true, is_false}
 use Rattle.marks.proofs.Sizes.{size_add, size_same, ones_size}
 
@@ -105,14 +105,6 @@ module _ {F : Type 0} {g : Mut F (ℕ × Unit {0}) ℕ} {f : F} (S : Marks) (ws 
       past : (m : ℕ) → 512 ≤ m → held ws m ≡ S m
       past m h = let n = all.long in held_past ws m (omega arith) ∙ sym (none m h)
 
--- two sets with the same words hold the same
-pub same_held : (xs ys : List ℕ) (n : ℕ) → length xs ≤ n → length ys ≤ n → ((i : ℕ) → i < n → get_or xs i 0 ≡ get_or ys i 0) → held xs ≡ held ys
-same_held xs ys n hx hy same = fun_ext (λ m. go m (cases_lt (m / 64) n))
-  where
-    go : (m : ℕ) → (m / 64 < n) ⊎ (n ≤ m / 64) → held xs m ≡ held ys m
-    go m (inl l) = ap (λ (x : ℕ). bit x (m % 64)) (same (m / 64) l)
-    go m (inr h) = held_past xs m (omega arith) ∙ sym (held_past ys m (omega arith))
-
 -- two sets that hold the same have the same words
 pub words_same : (xs ys : List ℕ) (i : ℕ) → get_or xs i 0 < 2 ^ 64 → get_or ys i 0 < 2 ^ 64 → held xs ≡ held ys → get_or xs i 0 ≡ get_or ys i 0
 words_same xs ys i hx hy same =
@@ -146,7 +138,7 @@ word_no_more a b ha hb within = bits_eq 64 (bit_and a (2 ^ 64 - 1 - b)) 0 small 
         ∙ is_false (bit a k && not (bit b k)) (λ t. go (bit a k) (bit b k) (within k h) t)
 
 -- the marks from `from` to the end of its word are the digits of what is left of that word
-pub held_from : (ws : List ℕ) (from k : ℕ) → from ≤ k → k / 64 ≡ from / 64 → held ws k ≡ bit (get_or ws (from / 64) 0 / 2 ^ (from % 64)) (k - from)
+held_from : (ws : List ℕ) (from k : ℕ) → from ≤ k → k / 64 ≡ from / 64 → held ws k ≡ bit (get_or ws (from / 64) 0 / 2 ^ (from % 64)) (k - from)
 held_from ws from k h e =
     let f : k % 64 ≡ from % 64 + (k - from) = omega arith in
     ap₂ (λ (x y : ℕ). bit (get_or ws x 0) y) e f ∙ sym (bit_shr (get_or ws (from / 64) 0) (from % 64) (k - from))
@@ -161,7 +153,7 @@ module _ (ws : List ℕ) (from : ℕ) (small : get_or ws (from / 64) 0 < 2 ^ 64)
       let le = shr_le (get_or ws (from / 64) 0) (from % 64) in
       trailing_at n some (omega arith)
 
-  pub lead_inside : from % 64 + count_trailing_zeros 64 (get_or ws (from / 64) 0 / 2 ^ (from % 64)) < 64
+  lead_inside : from % 64 + count_trailing_zeros 64 (get_or ws (from / 64) 0 / 2 ^ (from % 64)) < 64
   lead_inside =
       let w = get_or ws (from / 64) 0 in
       let t = count_trailing_zeros 64 (w / 2 ^ (from % 64)) in

@@ -113,19 +113,38 @@ pub(super) fn count_marks(words: &[u64; 8], width: u16) -> u16
     words.iter().map(|w| w.count_ones() as u16).sum()
 }
 
-// How the marks below the width are shared out, by the ones of the two sets' words combined.
+// The share of one word; `used` has the marks in use.
+fn overlap_word(a: u64, b: u64, used: u64) -> Overlap
+    ensures { Overlaps 64 (bit used) (bit a) (bit b) result }
+{
+    Overlap {
+        both: (a & b).count_ones() as u16,
+        neither: (used & !(a | b)).count_ones() as u16,
+        first: (a & !b).count_ones() as u16,
+        second: (b & !a).count_ones() as u16,
+    }
+}
+
+// How the marks below the width are shared out, by the ones of the two sets' words combined. By index, since the third word of
+// each turn is made from it, and since each word is looked at once.
 pub(super) fn count_overlap(a: &[u64; 8], b: &[u64; 8], width: u16) -> Overlap
     requires few { width ≤ 512 }
     requires first { OfWidth width (held a.now) }
     requires second { OfWidth width (held b.now) }
     ensures { Overlaps width (below width) (held a.now) (held b.now) result }
 {
-    let less = |x: u64, y: u64| x & !y;
-    let either = join_words(a, b, |x, y| x | y);
-    Overlap {
-        both: count_marks(&join_words(a, b, |x, y| x & y), width),
-        neither: count_marks(&join_words(&words_below(width), &either, less), width),
-        first: count_marks(&join_words(a, b, less), width),
-        second: count_marks(&join_words(b, a, less), width),
+    let mut total = Overlap {
+        both: 0,
+        neither: 0,
+        first: 0,
+        second: 0,
+    };
+    for i in 0..8 {
+        let word = overlap_word(a[i], b[i], word_below(width, i));
+        total.both += word.both;
+        total.neither += word.neither;
+        total.first += word.first;
+        total.second += word.second;
     }
+    total
 }

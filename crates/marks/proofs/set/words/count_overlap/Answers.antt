@@ -1,16 +1,43 @@
-use Rattle.std.proofs.Common.{ap, ap₂, ◌∙◌}
-use Rattle.marks.specs.Sets.{Marks, ◌∖◌, size}
+use Rattle.std.proofs.Common.{◌*◌, sym, arith}
+use Rattle.marks.specs.Sets.{below}
+use Rattle.marks.specs.Words.{held}
+use Rattle.marks.proofs.Overlaps.{overlaps_none, overlaps_few, overlaps_more, overlaps_all}
+use Rattle.marks.proofs.Words.{held_word}
 use Rattle.marks.proofs.set.words.count_overlap.Goals as goal
 
+pub loop-i-init : goal.loop-i-init
+loop-i-init c = overlaps_none (below c.args.width) (held c.args.a.now) (held c.args.b.now)
+
+pub overflow_add-total : goal.overflow_add-total
+overflow_add-total c =
+    let so_far = overlaps_few _ _ _ _ _ c.loop-i.invariant in
+    let word = overlaps_few _ _ _ _ _ c.overlap_word-word.ensures in
+    omega arith
+
+pub overflow_add-total-in-loop-i : goal.overflow_add-total-in-loop-i
+overflow_add-total-in-loop-i c =
+    let so_far = overlaps_few _ _ _ _ _ c.loop-i.invariant in
+    let word = overlaps_few _ _ _ _ _ c.overlap_word-word.ensures in
+    omega arith
+
+pub overflow_add-total-in-loop-i-2 : goal.overflow_add-total-in-loop-i-2
+overflow_add-total-in-loop-i-2 c =
+    let so_far = overlaps_few _ _ _ _ _ c.loop-i.invariant in
+    let word = overlaps_few _ _ _ _ _ c.overlap_word-word.ensures in
+    omega arith
+
+pub overflow_add-total-in-loop-i-3 : goal.overflow_add-total-in-loop-i-3
+overflow_add-total-in-loop-i-3 c =
+    let so_far = overlaps_few _ _ _ _ _ c.loop-i.invariant in
+    let word = overlaps_few _ _ _ _ _ c.overlap_word-word.ensures in
+    omega arith
+
+pub loop-i-preserved : goal.loop-i-preserved
+loop-i-preserved c =
+    let i = c.loop-i.i in
+    overlaps_more i _ _ _ _ _ _ c.loop-i.total c.overlap_word-word.result
+    (λ k l. sym (c.word_below.ensures k l)) (held_word c.args.a.now i) (held_word c.args.b.now i)
+    c.loop-i.invariant c.overlap_word-word.ensures
+
 pub returns : goal.returns
-returns c =
-    let w = c.args.width in
-    record {
-      both = c.count_marks.ensures ∙ ap (size w) c.join_words.ensures.marks;
-      neither =
-          c.count_marks-2.ensures
-          ∙ ap (size w)
-          (c.join_words-2.ensures.marks ∙ ap₂ (λ (S S' : Marks). S ∖ S') c.words_below.ensures.marks c.join_words-either.ensures.marks);
-      first = c.count_marks-3.ensures ∙ ap (size w) c.join_words-3.ensures.marks;
-      second = c.count_marks-4.ensures ∙ ap (size w) c.join_words-4.ensures.marks;
-    }
+returns c = overlaps_all c.args.width (64 * c.loop-i.i) _ _ _ (omega arith) c.requires.first c.requires.second c.loop-i.invariant
