@@ -2,7 +2,7 @@
 use Rattle.std.proofs.Common.{◌≡◌, ℕ, ◌<◌, ◌≤◌, Bool, true, false, cond, T, ltb, Some, None, Option, refl, ap, ◌∙◌, ltb→lt}
 use Rattle.std.proofs.lemmas.Bool.{cond-true, cond-false, cond_both, lt-ltb, le-ltb}
 use Rattle.marks.specs.Sets.{Marks, ◌∈◌, ◌⊆◌, OfWidth, with_mark}
-use Rattle.marks.proofs.Sets.{with_inside, with_there, holds}
+use Rattle.marks.proofs.Sets.{with_inside, holds}
 use Rattle.readings.proofs.Sets.{with_old, with_within}
 use Rattle.lines.specs.Passes.{View, fires, with_head, brought}
 

@@ -29,6 +29,18 @@ fn all_below(marks: &[u16], width: u16) -> bool
     marks.iter().all(|m| *m < width)
 }
 
+fn holds_all(set: &MarkSet, marks: &[u16]) -> bool
+    ensures { result ≡ has_all marks.now (marks_of set.now) }
+{
+    marks.iter().all(|m| set.contains(*m))
+}
+
+fn holds_none(set: &MarkSet, marks: &[u16]) -> bool
+    ensures { result ≡ has_none marks.now (marks_of set.now) }
+{
+    !marks.iter().any(|m| set.contains(*m))
+}
+
 impl MarkList {
     // The used places; all eight where the count is greater.
     pub fn used(&self) -> &[u16]
@@ -49,14 +61,14 @@ impl MarkList {
     pub fn all_in(&self, set: &MarkSet) -> bool
         ensures { result ≡ has_all (used self.now) (marks_of set.now) }
     {
-        self.used().iter().all(|m| set.contains(*m))
+        holds_all(set, self.used())
     }
 
     // Whether the set holds none of the marks of the list.
     pub fn none_in(&self, set: &MarkSet) -> bool
         ensures { result ≡ has_none (used self.now) (marks_of set.now) }
     {
-        !self.used().iter().any(|m| set.contains(*m))
+        holds_none(set, self.used())
     }
 }
 
