@@ -1,19 +1,20 @@
 // Line books.
-use crate::made::{denies, gives, none, refused, set, two};
+use crate::made::{denies, gives, list, refused};
 use books::book::TermBook;
 use line_book::book::LineBook;
 use lines::list::MarkList;
+use marks::set::MarkSet;
 use std::test::Fail;
 
 // Lines against their order: always gives 0; 0 with 1 gives 2; 2 with 3 is denied.
 #[test]
 fn grows(rt: HostRuntime) -> Result<(), Fail> {
     let mut book = LineBook::new(5)?;
-    book.fill(&[denies(two(2, 3)), gives(two(0, 1), 2), gives(none(), 0)])?;
-    let mut s = set(5, &[1])?;
+    book.fill(&[denies(list(&[2, 3])), gives(list(&[0, 1]), 2), gives(list(&[]), 0)])?;
+    let mut s = MarkSet::of(5, &[1])?;
     assert!(rt; !book.close(&mut s)?);
-    assert!(rt; s.same_marks(&set(5, &[0, 1, 2])?)?);
-    let mut s = set(5, &[1, 3])?;
+    assert!(rt; s.same_marks(&MarkSet::of(5, &[0, 1, 2])?)?);
+    let mut s = MarkSet::of(5, &[1, 3])?;
     assert!(rt; book.close(&mut s)?);
     assert!(rt; s.count() == 5);
     Ok(())
@@ -23,10 +24,10 @@ fn grows(rt: HostRuntime) -> Result<(), Fail> {
 #[test]
 fn no_line(rt: HostRuntime) -> Result<(), Fail> {
     let book = LineBook::new(5)?;
-    let mut s = set(5, &[1, 3])?;
+    let mut s = MarkSet::of(5, &[1, 3])?;
     assert!(rt; !book.close(&mut s)?);
     assert!(rt; s.count() == 2);
-    assert!(rt; book.close(&mut set(6, &[1])?).is_err());
+    assert!(rt; book.close(&mut MarkSet::of(6, &[1])?).is_err());
     Ok(())
 }
 
@@ -34,11 +35,11 @@ fn no_line(rt: HostRuntime) -> Result<(), Fail> {
 #[test]
 fn at_most_512(rt: HostRuntime) -> Result<(), Fail> {
     let mut book = LineBook::new(512)?;
-    assert!(rt; book.fill(&[gives(none(), 511); 512]).is_ok());
-    assert!(rt; refused(book.fill(&[gives(none(), 0); 513]), 8));
-    let mut s = set(512, &[])?;
+    assert!(rt; book.fill(&[gives(list(&[]), 511); 512]).is_ok());
+    assert!(rt; refused(book.fill(&[gives(list(&[]), 0); 513]), 8));
+    let mut s = MarkSet::of(512, &[])?;
     assert!(rt; !book.close(&mut s)?);
-    assert!(rt; s.same_marks(&set(512, &[511])?)?);
+    assert!(rt; s.same_marks(&MarkSet::of(512, &[511])?)?);
     Ok(())
 }
 
@@ -56,10 +57,10 @@ fn lawful(rt: HostRuntime) -> Result<(), Fail> {
     };
     assert!(rt; book.fill(&[gives(eight, 8)]).is_ok());
     assert!(rt; refused(book.fill(&[gives(nine, 8)]), 8));
-    assert!(rt; refused(book.fill(&[gives(two(0, 1), 9)]), 8));
-    assert!(rt; refused(book.fill(&[denies(two(1, 1))]), 8));
-    assert!(rt; refused(book.fill(&[denies(two(1, 0))]), 8));
-    assert!(rt; refused(book.fill(&[denies(two(0, 9))]), 8));
-    assert!(rt; book.fill(&[denies(two(0, 8))]).is_ok());
+    assert!(rt; refused(book.fill(&[gives(list(&[0, 1]), 9)]), 8));
+    assert!(rt; refused(book.fill(&[denies(list(&[1, 1]))]), 8));
+    assert!(rt; refused(book.fill(&[denies(list(&[1, 0]))]), 8));
+    assert!(rt; refused(book.fill(&[denies(list(&[0, 9]))]), 8));
+    assert!(rt; book.fill(&[denies(list(&[0, 8]))]).is_ok());
     Ok(())
 }

@@ -2,29 +2,16 @@
 use lines::list::MarkList;
 use lines::term::{Kind, TermLine};
 use marks::refusal::Refusal;
-use marks::set::MarkSet;
 
-pub(crate) fn set(width: u16, marks: &[u16]) -> Result<MarkSet, Refusal> {
-    let mut made = MarkSet::empty(width)?;
-    for m in marks {
-        made.insert(*m)?;
+// A list of these marks, at most eight; the places behind them hold 9999.
+pub(crate) fn list(marks: &[u16]) -> MarkList {
+    let mut places = [9999; 8];
+    for (place, m) in places.iter_mut().zip(marks) {
+        *place = *m;
     }
-    Ok(made)
-}
-
-// A list of two marks; the places behind them hold 9999.
-pub(crate) fn two(a: u16, b: u16) -> MarkList {
     MarkList {
-        count: 2,
-        marks: [a, b, 9999, 9999, 9999, 9999, 9999, 9999],
-    }
-}
-
-// A list of no marks.
-pub(crate) fn none() -> MarkList {
-    MarkList {
-        count: 0,
-        marks: [9999; 8],
+        count: marks.len().min(8) as u8,
+        marks: places,
     }
 }
 
@@ -46,9 +33,6 @@ pub(crate) fn denies(conditions: MarkList) -> TermLine {
 }
 
 // Whether the call was refused with that number.
-pub(crate) fn refused(r: Result<(), Refusal>, number: u8) -> bool {
-    match r {
-        Ok(()) => false,
-        Err(why) => why.number() == number,
-    }
+pub(crate) fn refused<T: Drop>(r: Result<T, Refusal>, number: u8) -> bool {
+    r.is_err_and(|why| why.number() == number)
 }

@@ -1,6 +1,6 @@
 // Calls on sheets, and their replies.
 use crate::records::Written;
-use crate::show::{Printed, answer_word, refused, verdict_word, yes_or_no};
+use crate::show::{Printed, Row, Spelled, refused, yes_or_no};
 use crate::words;
 use anyhow::anyhow;
 use books::book::TermBook;
@@ -9,7 +9,7 @@ use marks::refusal::Refusal;
 use marks::set::MarkSet;
 use runs::list::perform_all;
 use sheet::call::Call;
-use sheet::reply::{Counts, Reply};
+use sheet::reply::{Counts, Reply, Settlement};
 use sheet::sheet::Sheet;
 use std::alloc::Global;
 use std::fmt;
@@ -28,7 +28,7 @@ impl Written for Call {
 
 // What is done with a sheet.
 #[derive(Clone, Copy)]
-enum Step {
+pub(crate) enum Step {
     Run(Call),
     Counts,
     Try(MarkSet),
@@ -49,22 +49,16 @@ impl Written for Step {
 
 // A call on the first or the second of two sheets.
 #[derive(Clone, Copy)]
-pub(crate) struct Act {
-    second: bool,
-    step: Step,
+pub(crate) enum Act {
+    First(Step),
+    Second(Step),
 }
 
 impl Written for Act {
     fn written(text: &str) -> anyhow::Result<Act> {
         match text.split_at_checked(1) {
-            Some(("0", step)) => Ok(Act {
-                second: false,
-                step: <Step as Written>::written(step)?,
-            }),
-            Some(("1", step)) => Ok(Act {
-                second: true,
-                step: <Step as Written>::written(step)?,
-            }),
+            Some(("0", step)) => Ok(Act::First(<Step as Written>::written(step)?)),
+            Some(("1", step)) => Ok(Act::Second(<Step as Written>::written(step)?)),
             _ => Err(anyhow!("a call on two sheets begins with 0 or 1")),
         }
     }
@@ -72,14 +66,12 @@ impl Written for Act {
 
 // Calls with `;` between them; `-` for none.
 pub(crate) fn calls_of<T: Written>(heap: Global, text: &str) -> anyhow::Result<Vec<T>> {
-    let mut calls = Vec::new(heap);
     if text == "-" {
-        return Ok(calls);
+        return Ok(Vec::new(heap));
     }
-    for word in text.split(';') {
-        calls.push(T::written(word)?)?;
-    }
-    Ok(calls)
+    text.split(';')
+        .map(|word| -> anyhow::Result<T> { T::written(word) })
+        .try_collect(heap)
 }
 
 // What a call on a sheet tells.
@@ -90,20 +82,15 @@ enum Told {
     Whether(bool),
 }
 
-#[derive(Clone, Copy)]
-struct ReplyText(Result<Told, Refusal>);
-
-impl fmt::Display for ReplyText {
-    fn fmt<W: fmt::Write>(&self, f: &mut fmt::Formatter<W>) -> fmt::Result {
-        match self.0 {
+impl Spelled for Result<Told, Refusal> {
+    fn spell<W: fmt::Write>(&self, f: &mut fmt::Formatter<W>) -> fmt::Result {
+        match *self {
             Err(refusal) => write!(f, "r{}", refusal.number()),
             Ok(Told::Reply(Reply::Done)) => write!(f, "done"),
-            Ok(Told::Reply(Reply::Settled(settlement))) => {
-                let verdict = verdict_word(settlement.verdict);
-                let rounds = settlement.rounds;
+            Ok(Told::Reply(Reply::Settled(Settlement { verdict, rounds }))) => {
                 write!(f, "{verdict}/{rounds}")
             }
-            Ok(Told::Reply(Reply::Told(answer))) => write!(f, "{}", answer_word(answer)),
+            Ok(Told::Reply(Reply::Told(answer))) => write!(f, "{answer}"),
             Ok(Told::Counts(counts)) => {
                 let Counts {
                     holds,
@@ -115,23 +102,6 @@ impl fmt::Display for ReplyText {
             }
             Ok(Told::Whether(yes)) => write!(f, "{}", yes_or_no(yes)),
         }
-    }
-}
-
-#[derive(Clone, Copy)]
-struct Replies<'a>(&'a [Result<Told, Refusal>]);
-
-impl fmt::Display for Replies<'_> {
-    fn fmt<W: fmt::Write>(&self, f: &mut fmt::Formatter<W>) -> fmt::Result {
-        if self.0.is_empty() {
-            write!(f, "-")?;
-        }
-        for (i, told) in self.0.iter().enumerate() {
-            let gap = if i == 0 { "" } else { ";" };
-            let reply = ReplyText(*told);
-            write!(f, "{gap}{reply}")?;
-        }
-        Ok(())
     }
 }
 
@@ -148,16 +118,13 @@ pub(crate) fn perform_calls<B: TermBook>(
     if let Err(refusal) = perform_all(width, fares, book, calls, replies.as_mut_slice()) {
         return refused(heap, refusal);
     }
-    let mut told = Vec::new(heap);
-    for reply in replies.iter().take(calls.len()) {
-        told.push(told_of(*reply))?;
-    }
-    let replies = Replies(told.as_slice());
+    let told: Vec<Result<Told, Refusal>> = replies
+        .iter()
+        .take(calls.len())
+        .map(|reply| reply.map(Told::Reply))
+        .collect(heap)?;
+    let replies = Row(told.as_slice(), ";");
     Ok(format!(in heap; "ok {replies}")?)
-}
-
-fn told_of(reply: Result<Reply, Refusal>) -> Result<Told, Refusal> {
-    Ok(Told::Reply(reply?))
 }
 
 // Performs the calls one by one on two new sheets.
@@ -169,24 +136,23 @@ pub(crate) fn perform_acts<B: TermBook>(
     fares: &[FareLine],
     book: &B,
 ) -> Printed {
-    let mut first = match Sheet::new(first) {
-        Ok(sheet) => sheet,
+    let (mut first, mut second) = match two_sheets(first, second) {
+        Ok(sheets) => sheets,
         Err(refusal) => return refused(heap, refusal),
     };
-    let mut second = match Sheet::new(second) {
-        Ok(sheet) => sheet,
-        Err(refusal) => return refused(heap, refusal),
-    };
-    let mut told = Vec::new(heap);
-    for act in acts {
-        told.push(if act.second {
-            take(&mut second, &first, act.step, fares, book)
-        } else {
-            take(&mut first, &second, act.step, fares, book)
-        })?;
-    }
-    let replies = Replies(told.as_slice());
+    let told: Vec<Result<Told, Refusal>> = acts
+        .iter()
+        .map(|act| match act {
+            Act::First(step) => take(&mut first, &second, *step, fares, book),
+            Act::Second(step) => take(&mut second, &first, *step, fares, book),
+        })
+        .collect(heap)?;
+    let replies = Row(told.as_slice(), ";");
     Ok(format!(in heap; "ok {replies}")?)
+}
+
+fn two_sheets(first: u16, second: u16) -> Result<(Sheet, Sheet), Refusal> {
+    Ok((Sheet::new(first)?, Sheet::new(second)?))
 }
 
 // Takes one step on a sheet, beside the other one.
@@ -198,10 +164,10 @@ fn take<B: TermBook>(
     book: &B,
 ) -> Result<Told, Refusal> {
     match step {
-        Step::Run(call) => Ok(Told::Reply(run(sheet, call, fares, book)?)),
-        Step::Counts => Ok(Told::Counts(sheet.counts()?)),
-        Step::Try(set) => Ok(Told::Whether(sheet.try_set(fares, book, &set)?)),
-        Step::Alike => Ok(Told::Whether(sheet.alike(other)?)),
+        Step::Run(call) => run(sheet, call, fares, book).map(Told::Reply),
+        Step::Counts => sheet.counts().map(Told::Counts),
+        Step::Try(set) => sheet.try_set(fares, book, &set).map(Told::Whether),
+        Step::Alike => sheet.alike(other).map(Told::Whether),
     }
 }
 
@@ -213,15 +179,9 @@ fn run<B: TermBook>(
     book: &B,
 ) -> Result<Reply, Refusal> {
     match call {
-        Call::Enter(mark) => {
-            sheet.enter(mark)?;
-            Ok(Reply::Done)
-        }
-        Call::Strike(mark) => {
-            sheet.strike(mark)?;
-            Ok(Reply::Done)
-        }
-        Call::Settle(method) => Ok(Reply::Settled(sheet.settle(fares, book, method)?)),
-        Call::Ask(mark) => Ok(Reply::Told(sheet.ask(mark)?)),
+        Call::Enter(mark) => sheet.enter(mark).map(|()| Reply::Done),
+        Call::Strike(mark) => sheet.strike(mark).map(|()| Reply::Done),
+        Call::Settle(method) => sheet.settle(fares, book, method).map(Reply::Settled),
+        Call::Ask(mark) => sheet.ask(mark).map(Reply::Told),
     }
 }

@@ -1,38 +1,20 @@
 // Cases of tariff files, and of the host call.
 use crate::bytes::BLANK;
 use crate::records::records;
-use crate::show::{Fares, Hex, Printed, Terms, refused, written};
+use crate::show::{Hex, Printed, Row, refused, written};
 use crate::words;
 use host::call::fare_settle;
 use lines::fare::FareLine;
-use lines::list::MarkList;
-use lines::term::{Kind, TermLine};
+use lines::term::TermLine;
 use std::alloc::Global;
 use tariff_format::fault::FileFault;
 use tariff_reader::read::read_tariff;
 use tariff_writer::file::{tariff_size, write_tariff};
 
-const NONE: MarkList = MarkList {
-    count: 0,
-    marks: [0; 8],
-};
-
-const FARE: FareLine = FareLine {
-    head: 0,
-    conditions: NONE,
-    unless: NONE,
-};
-
-const TERM: TermLine = TermLine {
-    kind: Kind::Gives,
-    head: 0,
-    conditions: NONE,
-};
-
 pub(crate) fn read(heap: Global, fares: &str, terms: &str, hex: &str) -> Printed {
     let bytes = words::bytes(heap, hex)?;
-    let mut fares = vec![in heap; FARE; words::amount(fares)?]?;
-    let mut terms = vec![in heap; TERM; words::amount(terms)?]?;
+    let mut fares = vec![in heap; FareLine::default(); words::amount(fares)?]?;
+    let mut terms = vec![in heap; TermLine::default(); words::amount(terms)?]?;
     match read_tariff(bytes.as_slice(), fares.as_mut_slice(), terms.as_mut_slice()) {
         Err(met) => file_fault(heap, met),
         Ok(counts) => {
@@ -66,8 +48,8 @@ fn file_back(heap: Global, width: u16, fares: &[FareLine], terms: &[TermLine]) -
     if let Err(refusal) = write_tariff(width, fares, terms, out.as_mut_slice()) {
         return refused(heap, refusal);
     }
-    let fares = Fares(fares);
-    let terms = Terms(terms);
+    let fares = Row(fares, "+");
+    let terms = Row(terms, "+");
     let hex = Hex(out.as_slice());
     Ok(format!(in heap; "ok {width} {fares} {terms} {hex}")?)
 }

@@ -1,7 +1,7 @@
 // What a case does with its book.
 use crate::calls::{Act, calls_of, perform_acts, perform_calls};
 use crate::records::records;
-use crate::show::{Marks, Printed, refused, verdict_word, yes_or_no};
+use crate::show::{Marks, Printed, refused, yes_or_no};
 use crate::words;
 use books::book::TermBook;
 use lines::fare::FareLine;
@@ -160,7 +160,7 @@ fn settle_facts<B: TermBook>(
     match settle(fares, book, facts, method) {
         Err(refusal) => refused(heap, refusal),
         Ok(judged) => {
-            let verdict = verdict_word(judged.verdict);
+            let verdict = judged.verdict;
             let rounds = judged.settled.rounds;
             let lower = Marks(&judged.settled.lower);
             let upper = Marks(&judged.settled.upper);

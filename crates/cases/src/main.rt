@@ -24,17 +24,14 @@ fn main(rt: HostRuntime) -> anyhow::Result<()> {
 // An empty line is passed over. The first line that is no case ends the program.
 fn run(rt: &HostRuntime) -> anyhow::Result<()> {
     let heap = rt.alloc();
-    let mut number = 0u64;
-    for line in BufReader::new(heap, rt.stdin())?.lines(heap) {
+    for (i, line) in BufReader::new(heap, rt.stdin())?.lines(heap).enumerate() {
         let line = line?;
-        number = number.saturating_add(1);
         if line.is_empty() {
             continue;
         }
-        match printed(heap, line.as_str()) {
-            Ok(text) => rt.println(text)?,
-            Err(why) => return Err(anyhow!(format!(in heap; "line {number}: {why}")?)),
-        }
+        let number = i.saturating_add(1);
+        let text = printed(heap, line.as_str()).map_err(|why| anyhow!("line {number}: {why}"))?;
+        rt.println(text)?;
     }
     Ok(())
 }

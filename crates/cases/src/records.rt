@@ -1,6 +1,6 @@
 // The records of a case: lines, bars and worlds, and lists of them.
 use crate::words::{amount, mark_list, number, set};
-use anyhow::anyhow;
+use anyhow::Context;
 use lines::bar::Bar;
 use lines::fare::FareLine;
 use lines::term::{Kind, TermLine};
@@ -14,12 +14,9 @@ pub(crate) trait Written: Copy {
 
 impl Written for FareLine {
     fn written(text: &str) -> anyhow::Result<FareLine> {
-        let Some((head, lists)) = text.split_once('/') else {
-            return Err(anyhow!("a fare line has a head and two lists"));
-        };
-        let Some((conditions, unless)) = lists.split_once('/') else {
-            return Err(anyhow!("a fare line has a head and two lists"));
-        };
+        let wants = "a fare line has a head and two lists";
+        let (head, lists) = text.split_once('/').context(wants)?;
+        let (conditions, unless) = lists.split_once('/').context(wants)?;
         Ok(FareLine {
             head: number(head)?,
             conditions: mark_list(conditions)?,
@@ -31,31 +28,27 @@ impl Written for FareLine {
 // The head's place of a denial holds what no head can be.
 impl Written for TermLine {
     fn written(text: &str) -> anyhow::Result<TermLine> {
-        match text.split_once('/') {
-            None => Err(anyhow!("a term line has a head and a list")),
-            Some(("!", conditions)) => Ok(TermLine {
-                kind: Kind::Denies,
-                head: u16::MAX,
-                conditions: mark_list(conditions)?,
-            }),
-            Some((head, conditions)) => Ok(TermLine {
-                kind: Kind::Gives,
-                head: number(head)?,
-                conditions: mark_list(conditions)?,
-            }),
-        }
+        let parts = text.split_once('/');
+        let (head, conditions) = parts.context("a term line has a head and a list")?;
+        let (kind, head) = match head {
+            "!" => (Kind::Denies, u16::MAX),
+            mark => (Kind::Gives, number(mark)?),
+        };
+        Ok(TermLine {
+            kind,
+            head,
+            conditions: mark_list(conditions)?,
+        })
     }
 }
 
 impl Written for Bar {
     fn written(text: &str) -> anyhow::Result<Bar> {
-        match text.split_once('-') {
-            None => Err(anyhow!("a bar is two marks")),
-            Some((low, high)) => Ok(Bar {
-                low: number(low)?,
-                high: number(high)?,
-            }),
-        }
+        let (low, high) = text.split_once('-').context("a bar is two marks")?;
+        Ok(Bar {
+            low: number(low)?,
+            high: number(high)?,
+        })
     }
 }
 
@@ -72,17 +65,10 @@ pub(crate) fn records<T: Written>(heap: Global, text: &str) -> anyhow::Result<Ve
         return Ok(records);
     }
     for word in text.split('+') {
-        match word.split_once('*') {
-            None => add(&mut records, T::written(word)?, 1)?,
-            Some((record, times)) => add(&mut records, T::written(record)?, amount(times)?)?,
-        }
+        let (record, times) = word.split_once('*').unwrap_or((word, "1"));
+        let record = T::written(record)?;
+        let count = records.len().saturating_add(amount(times)?);
+        records.resize(count, record)?;
     }
     Ok(records)
-}
-
-fn add<T: Written>(records: &mut Vec<T>, record: T, times: usize) -> anyhow::Result<()> {
-    for _ in 0..times {
-        records.push(record)?;
-    }
-    Ok(())
 }

@@ -3,11 +3,10 @@ use lines::fare::FareLine;
 use lines::term::{Kind, TermLine};
 use marks::refusal::Refusal;
 use marks::set::MarkSet;
-use readings::answer::Answer;
-use readings::verdict::Verdict;
 use std::alloc::Global;
 use std::fmt;
 use tariff::fault::NumberFault;
+use texts::listed::{Joined, Listed};
 
 // The line for a case, or why it is none.
 pub(crate) type Printed = anyhow::Result<String>;
@@ -34,70 +33,52 @@ pub(crate) struct Marks<'a>(pub(crate) &'a MarkSet);
 
 impl fmt::Display for Marks<'_> {
     fn fmt<W: fmt::Write>(&self, f: &mut fmt::Formatter<W>) -> fmt::Result {
-        let Some(first) = self.0.next(0) else {
+        if self.0.count() == 0 {
             return write!(f, ".");
-        };
-        write!(f, "{first}")?;
-        let mut at = first + 1;
-        while let Some(m) = self.0.next(at) {
-            write!(f, ",{m}")?;
-            at = m + 1;
         }
-        Ok(())
+        write!(f, "{}", Listed(self.0, ","))
     }
 }
 
-// The marks of a list in a line; nothing for none.
-#[derive(Clone, Copy)]
-struct Places<'a>(&'a [u16]);
+// What is printed as one word, or as part of one.
+pub(crate) trait Spelled {
+    fn spell<W: fmt::Write>(&self, f: &mut fmt::Formatter<W>) -> fmt::Result;
+}
 
-impl fmt::Display for Places<'_> {
-    fn fmt<W: fmt::Write>(&self, f: &mut fmt::Formatter<W>) -> fmt::Result {
-        for (i, m) in self.0.iter().enumerate() {
-            let gap = if i == 0 { "" } else { "," };
-            write!(f, "{gap}{m}")?;
-        }
-        Ok(())
+impl Spelled for FareLine {
+    fn spell<W: fmt::Write>(&self, f: &mut fmt::Formatter<W>) -> fmt::Result {
+        let head = self.head;
+        let conditions = Joined(self.conditions.used(), ",");
+        let unless = Joined(self.unless.used(), ",");
+        write!(f, "{head}/{conditions}/{unless}")
     }
 }
 
-// Fare lines; `-` for none.
-#[derive(Clone, Copy)]
-pub(crate) struct Fares<'a>(pub(crate) &'a [FareLine]);
-
-impl fmt::Display for Fares<'_> {
-    fn fmt<W: fmt::Write>(&self, f: &mut fmt::Formatter<W>) -> fmt::Result {
-        if self.0.is_empty() {
-            write!(f, "-")?;
+impl Spelled for TermLine {
+    fn spell<W: fmt::Write>(&self, f: &mut fmt::Formatter<W>) -> fmt::Result {
+        let head = self.head;
+        let conditions = Joined(self.conditions.used(), ",");
+        match self.kind {
+            Kind::Gives => write!(f, "{head}/{conditions}"),
+            Kind::Denies => write!(f, "!/{conditions}"),
         }
-        for (i, line) in self.0.iter().enumerate() {
-            let gap = if i == 0 { "" } else { "+" };
-            let head = line.head;
-            let conditions = Places(line.conditions.used());
-            let unless = Places(line.unless.used());
-            write!(f, "{gap}{head}/{conditions}/{unless}")?;
-        }
-        Ok(())
     }
 }
 
-// Term lines; `-` for none.
+// Lines or replies, with a sign between them; `-` for none.
 #[derive(Clone, Copy)]
-pub(crate) struct Terms<'a>(pub(crate) &'a [TermLine]);
+pub(crate) struct Row<'a, T>(pub(crate) &'a [T], pub(crate) &'static str);
 
-impl fmt::Display for Terms<'_> {
+impl<T: Spelled> fmt::Display for Row<'_, T> {
     fn fmt<W: fmt::Write>(&self, f: &mut fmt::Formatter<W>) -> fmt::Result {
         if self.0.is_empty() {
             write!(f, "-")?;
         }
-        for (i, line) in self.0.iter().enumerate() {
-            let gap = if i == 0 { "" } else { "+" };
-            let head = line.head;
-            let conditions = Places(line.conditions.used());
-            match line.kind {
-                Kind::Gives => write!(f, "{gap}{head}/{conditions}")?,
-                Kind::Denies => write!(f, "{gap}!/{conditions}")?,
+        for (i, item) in self.0.iter().enumerate() {
+            if i > 0 {
+                write!(f, "{}", self.1)?;
             }
+            item.spell(f)?;
         }
         Ok(())
     }
@@ -128,21 +109,4 @@ pub(crate) fn written(heap: Global, end: Result<usize, Refusal>, bytes: &[u8]) -
 
 pub(crate) fn yes_or_no(yes: bool) -> &'static str {
     if yes { "yes" } else { "no" }
-}
-
-pub(crate) fn verdict_word(verdict: Verdict) -> &'static str {
-    match verdict {
-        Verdict::Clear => "clear",
-        Verdict::Suspect => "suspect",
-        Verdict::Broken => "broken",
-    }
-}
-
-pub(crate) fn answer_word(answer: Answer) -> &'static str {
-    match answer {
-        Answer::Not => "not",
-        Answer::Holds => "holds",
-        Answer::Open => "open",
-        Answer::Both => "both",
-    }
 }

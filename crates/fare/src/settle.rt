@@ -10,18 +10,9 @@ use texts::listed::Braced;
 use texts::refused::RefusalText;
 use texts::trip::{Closed, Facts};
 
-// The set of these marks, for the sample's width.
-fn set_of(marks: &[u16]) -> Result<MarkSet, Refusal> {
-    let mut set = MarkSet::empty(sample::WIDTH)?;
-    for m in marks {
-        set.insert(*m)?;
-    }
-    Ok(set)
-}
-
 fn close(marks: &[u16]) -> Result<Closed, Refusal> {
     let book = sample::book()?;
-    let given = set_of(marks)?;
+    let given = MarkSet::of(sample::WIDTH, marks)?;
     let mut closure = given;
     let clash = book.close(&mut closure)?;
     Ok(Closed {
@@ -36,7 +27,7 @@ pub(crate) fn show_closed(rt: &HostRuntime, marks: &[u16]) -> io::Result<()> {
 }
 
 pub(crate) fn show_settled(rt: &HostRuntime, marks: &[u16]) -> io::Result<()> {
-    match set_of(marks) {
+    match MarkSet::of(sample::WIDTH, marks) {
         Err(refusal) => show_refusal(rt, refusal),
         Ok(set) => {
             let facts = Facts(&set);

@@ -1,16 +1,15 @@
 // The commands: each takes its words apart and hands them on.
-use crate::facts::show_facts;
 use crate::failure::Failure;
-use crate::hex::hex_bytes;
-use crate::numbers::show_number;
 use crate::run::{run_script, script_of};
 use crate::sample::show_sample;
-use crate::script::method_of;
 use crate::settle::{show_closed, show_settled};
 use crate::show::{check_file, copy_file, rewrite_file, show_file};
 use crate::tariff_file::Tariff;
+use anyhow::anyhow;
 use readings::method::Method;
 use std::alloc::Global;
+use texts::facts_string::FactsString;
+use texts::number::NumberText;
 
 const HELP: &str = "\
 fare [sample]             the sample tariff, and a trip under it from beginning to end
@@ -32,138 +31,108 @@ fare --help               this text
 A FILE is the name of a tariff file, or sample for the built-in one, or its bytes as hex:010000.
 An example: fare settle sample 0 3";
 
-pub(crate) fn perform(rt: &HostRuntime, words: &[String]) -> Result<(), Failure> {
-    let [command, rest @ ..] = words else {
-        return show_sample(rt);
-    };
-    match command.as_str() {
-        "facts" => facts_strings(rt, rest),
-        "numbers" => number_strings(rt, rest),
-        "sample" => show_sample(rt),
-        "--help" => Ok(rt.println(HELP)?),
-        name => match rest {
-            [file, more @ ..] => on_file(rt, name, file.as_str(), more),
-            [] => Err(no_such(rt.alloc(), name)),
-        },
+pub(crate) fn perform(rt: &HostRuntime, words: &[&str]) -> Result<(), Failure> {
+    match words {
+        [] | ["sample", ..] => show_sample(rt),
+        ["facts", strings @ ..] => facts_strings(rt, strings),
+        ["numbers", strings @ ..] => number_strings(rt, strings),
+        ["--help", ..] => Ok(rt.println(HELP)?),
+        ["show", file] => show_file(rt, file),
+        ["check", file] => check_file(rt, file),
+        ["copy", file, to @ ..] => copy(rt, file, to),
+        ["close", file, marks @ ..] => close(rt, file, marks),
+        ["settle", file, "--method", number, marks @ ..] => {
+            settle_by(rt, file, method(number)?, marks)
+        }
+        ["settle", file, marks @ ..] => settle_by(rt, file, Method::First, marks),
+        ["run", file, calls @ ..] => run(rt, file, calls),
+        [name, ..] => Err(no_such(name)),
     }
 }
 
-// The commands that begin with a tariff file.
-fn on_file(rt: &HostRuntime, name: &str, file: &str, rest: &[String]) -> Result<(), Failure> {
-    match name {
-        "show" if rest.is_empty() => show_file(rt, file),
-        "check" if rest.is_empty() => check_file(rt, file),
-        "copy" => copy(rt, file, rest),
-        "close" => close(rt, file, rest),
-        "settle" => settle(rt, file, rest),
-        "run" => run(rt, file, rest),
-        _ => Err(no_such(rt.alloc(), name)),
-    }
+fn no_such(name: &str) -> Failure {
+    anyhow!("there is no command {name} with these words: fare --help lists them").into()
 }
 
-fn no_such(heap: Global, name: &str) -> Failure {
-    match format!(in heap; "there is no command {name} with these words: fare --help lists them") {
-        Ok(text) => text.into(),
-        Err(error) => error.into(),
-    }
-}
-
-fn copy(rt: &HostRuntime, file: &str, rest: &[String]) -> Result<(), Failure> {
+fn copy(rt: &HostRuntime, file: &str, rest: &[&str]) -> Result<(), Failure> {
     match rest {
         [] => {
             rewrite_file(rt, file)?;
             Ok(())
         }
-        [to] => copy_file(rt, file, to.as_str()),
+        [to] => copy_file(rt, file, to),
         _ => Err("a tariff is copied to one file".into()),
     }
 }
 
-fn close(rt: &HostRuntime, file: &str, rest: &[String]) -> Result<(), Failure> {
-    let marks = marks_of(rt.alloc(), rest)?;
+fn close(rt: &HostRuntime, file: &str, marks: &[&str]) -> Result<(), Failure> {
+    let marks = marks_of(rt.alloc(), marks)?;
     show_closed(rt, &Tariff::load(rt, file)?, &marks)
 }
 
-fn settle(rt: &HostRuntime, file: &str, rest: &[String]) -> Result<(), Failure> {
-    match rest {
-        [flag, number, marks @ ..] if flag.as_str() == "--method" => {
-            settle_by(rt, file, method(number.as_str())?, marks)
-        }
-        marks => settle_by(rt, file, Method::First, marks),
-    }
-}
-
-fn settle_by(
-    rt: &HostRuntime,
-    file: &str,
-    method: Method,
-    marks: &[String],
-) -> Result<(), Failure> {
+fn settle_by(rt: &HostRuntime, file: &str, method: Method, marks: &[&str]) -> Result<(), Failure> {
     let marks = marks_of(rt.alloc(), marks)?;
     show_settled(rt, &Tariff::load(rt, file)?, &marks, method)
 }
 
-fn run(rt: &HostRuntime, file: &str, rest: &[String]) -> Result<(), Failure> {
+fn run(rt: &HostRuntime, file: &str, rest: &[&str]) -> Result<(), Failure> {
     let script = match rest {
         [] => return Err("the calls, or the name of a script, must follow".into()),
-        [name] => script_of(rt, name.as_str())?,
+        [name] => script_of(rt, name)?,
         calls => joined(rt.alloc(), calls)?,
     };
     run_script(rt, &Tariff::load(rt, file)?, script.as_str())
 }
 
-fn joined(heap: Global, words: &[String]) -> Result<String, Failure> {
+fn joined(heap: Global, words: &[&str]) -> Result<String, Failure> {
     let mut text = String::new(heap);
     for word in words {
-        text.push_str(word.as_str())?;
+        text.push_str(word)?;
         text.push_str(" ")?;
     }
     Ok(text)
 }
 
 // Takes the words two by two: a width and a facts string.
-fn facts_strings(rt: &HostRuntime, words: &[String]) -> Result<(), Failure> {
-    let mut width = None;
-    for word in words {
-        match width {
-            None => width = Some(number(word.as_str())?),
-            Some(w) => {
-                show_facts(rt, w, &hex_bytes(rt.alloc(), word.as_str())?)?;
-                width = None;
-            }
-        }
+fn facts_strings(rt: &HostRuntime, words: &[&str]) -> Result<(), Failure> {
+    let (pairs, rest) = words.as_chunks::<2>();
+    for [width, digits] in pairs {
+        let width = number(width)?;
+        let bytes = hex::decode(rt.alloc(), *digits)?;
+        let facts = FactsString {
+            width,
+            bytes: &bytes,
+        };
+        println!(rt; "{facts}")?;
     }
-    match width {
-        None => Ok(()),
-        Some(_) => Err("a facts string must follow its width".into()),
-    }
+    let Some(width) = rest.first() else {
+        return Ok(());
+    };
+    number(width)?;
+    Err("a facts string must follow its width".into())
 }
 
-fn number_strings(rt: &HostRuntime, words: &[String]) -> Result<(), Failure> {
-    for word in words {
-        show_number(rt, &hex_bytes(rt.alloc(), word.as_str())?)?;
+fn number_strings(rt: &HostRuntime, words: &[&str]) -> Result<(), Failure> {
+    for digits in words {
+        let bytes = hex::decode(rt.alloc(), *digits)?;
+        let number = NumberText(&bytes);
+        println!(rt; "{number}")?;
     }
     Ok(())
 }
 
-fn marks_of(heap: Global, words: &[String]) -> Result<Vec<u16>, Failure> {
-    let mut marks = Vec::new(heap);
-    for word in words {
-        marks.push(number(word.as_str())?)?;
-    }
-    Ok(marks)
+fn marks_of(heap: Global, words: &[&str]) -> Result<Vec<u16>, Failure> {
+    words
+        .iter()
+        .map(|word| -> Result<u16, Failure> { number(word) })
+        .try_collect(heap)
 }
 
 fn number(word: &str) -> Result<u16, Failure> {
-    match word.parse::<u16>() {
-        Ok(n) => Ok(n),
-        Err(_) => Err("a mark or a width is a number up to 65,535".into()),
-    }
+    word.parse::<u16>()
+        .map_err(|_| "a mark or a width is a number up to 65,535".into())
 }
 
 fn method(word: &str) -> Result<Method, Failure> {
-    match method_of(number(word)?) {
-        Some(method) => Ok(method),
-        None => Err("the methods are 1 and 2".into()),
-    }
+    Method::try_from(number(word)?).map_err(|_| "the methods are 1 and 2".into())
 }

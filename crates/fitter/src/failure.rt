@@ -1,9 +1,11 @@
 // Why a command did not do what it was asked: what the module refused, or what else went wrong.
-use crate::words::{FaultText, RefusalText};
+use anyhow::anyhow;
+use hex::FromHexError;
 use marks::refusal::Refusal;
-use std::alloc::{AllocError, AllocFailed, Global};
+use std::alloc::{AllocError, AllocFailed};
 use std::{fmt, io};
 use tariff_format::fault::FileFault;
+use texts::refused::{FaultText, RefusalText};
 
 #[derive(Debug, Drop)]
 pub(crate) enum Failure {
@@ -55,22 +57,28 @@ impl<T: Drop> From<AllocFailed<T>> for Failure {
     }
 }
 
+impl From<FromHexError> for Failure {
+    fn from(error: FromHexError) -> Failure {
+        match error {
+            FromHexError::OutOfMemory => AllocError.into(),
+            _ => "a byte is two hexadecimal digits".into(),
+        }
+    }
+}
+
+impl From<anyhow::Error> for Failure {
+    fn from(error: anyhow::Error) -> Failure {
+        Failure::Other(error)
+    }
+}
+
 impl From<&str> for Failure {
     fn from(text: &str) -> Failure {
         Failure::Other(anyhow::Error::msg(text))
     }
 }
 
-impl From<String> for Failure {
-    fn from(text: String) -> Failure {
-        Failure::Other(anyhow::Error::msg(text))
-    }
-}
-
 // A file that cannot be read or written.
-pub(crate) fn cannot(heap: Global, what: &str, name: &str, error: io::Error) -> Failure {
-    match format!(in heap; "cannot {what} {name}: {error}") {
-        Ok(text) => text.into(),
-        Err(error) => error.into(),
-    }
+pub(crate) fn cannot(what: &str, name: &str, error: io::Error) -> Failure {
+    anyhow!("cannot {what} {name}: {error}").into()
 }

@@ -2,11 +2,8 @@
 #![tactic(auto)]
 
 mod commands;
-mod facts;
 mod failure;
-mod hex;
 mod line_text;
-mod numbers;
 mod run;
 mod sample;
 mod script;
@@ -14,12 +11,10 @@ mod settle;
 mod show;
 mod tariff_file;
 mod text;
-mod words;
 
 use commands::perform;
 use failure::Failure;
 use run::{input_script, run_script};
-use std::alloc::Global;
 use std::env;
 use std::process::ExitCode;
 use tariff_file::Tariff;
@@ -35,10 +30,11 @@ fn main(rt: HostRuntime) -> ExitCode {
 }
 
 fn by_words(rt: &HostRuntime) -> Result<(), Failure> {
-    let words: Vec<String> = env::args(rt)?.skip(1).collect(rt.alloc())?;
+    let args: Vec<String> = env::args(rt)?.skip(1).collect(rt.alloc())?;
+    let words: Vec<&str> = args.iter().map(|word| word.as_str()).collect(rt.alloc())?;
     match words.as_slice() {
-        [word] if word.as_str() == "-" => perform_lines(rt),
-        [word, file] if word.as_str() == "run" => run_input(rt, file.as_str()),
+        ["-"] => perform_lines(rt),
+        ["run", file] => run_input(rt, file),
         all => perform(rt, all),
     }
 }
@@ -64,17 +60,9 @@ fn perform_lines(rt: &HostRuntime) -> Result<(), Failure> {
 
 fn perform_line(rt: &HostRuntime, line: &str) -> Result<(), Failure> {
     println!(rt; "> {line}")?;
-    let words = words_of(rt.alloc(), line)?;
+    let words: Vec<&str> = line.split_whitespace().collect(rt.alloc())?;
     if let Err(failure) = perform(rt, words.as_slice()) {
         println!(rt; "{failure}")?;
     }
     Ok(())
-}
-
-fn words_of(heap: Global, line: &str) -> Result<Vec<String>, Failure> {
-    let mut words = Vec::new(heap);
-    for word in line.split_whitespace() {
-        words.push(String::from_str(heap, word)?)?;
-    }
-    Ok(words)
 }

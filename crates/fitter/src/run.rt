@@ -38,10 +38,7 @@ fn show_replies(
 
 // The text of a script's file.
 pub(crate) fn script_of(rt: &HostRuntime, name: &str) -> Result<String, Failure> {
-    match fs::read_to_string(rt, name) {
-        Ok(text) => Ok(text),
-        Err(error) => Err(cannot(rt.alloc(), "read", name, error)),
-    }
+    fs::read_to_string(rt, name).map_err(|error| cannot("read", name, error))
 }
 
 // The whole input of the program, as a script.

@@ -1,13 +1,14 @@
 // Scripts: calls on a sheet, one to a line, and their replies in words.
 use crate::failure::Failure;
 use crate::text::Many;
-use crate::words::{RefusalText, answer_word, verdict_word};
+use anyhow::anyhow;
 use marks::refusal::Refusal;
 use readings::method::Method;
 use sheet::call::Call;
 use sheet::reply::Reply;
 use std::alloc::Global;
 use std::fmt;
+use texts::refused::RefusalText;
 
 // A call as it stands in a script: enter 3, settle 1.
 #[derive(Clone, Copy)]
@@ -33,11 +34,11 @@ impl fmt::Display for ReplyText {
         match self.0 {
             Ok(Reply::Done) => write!(f, "done"),
             Ok(Reply::Settled(settlement)) => {
-                let verdict = verdict_word(settlement.verdict);
+                let verdict = settlement.verdict;
                 let rounds = Many(settlement.rounds as usize, "round");
                 write!(f, "{verdict} after {rounds}")
             }
-            Ok(Reply::Told(answer)) => write!(f, "{}", answer_word(answer)),
+            Ok(Reply::Told(answer)) => write!(f, "{answer}"),
             Err(refusal) => write!(f, "{}", RefusalText(refusal)),
         }
     }
@@ -46,31 +47,19 @@ impl fmt::Display for ReplyText {
 // The calls of a script. They stand one to a line, or on one line with semicolons between them; a line that begins with # is
 // passed over.
 pub(crate) fn calls_of(heap: Global, script: &str) -> Result<Vec<Call>, Failure> {
-    let mut calls = Vec::new(heap);
-    for line in script.lines() {
-        let line = line.trim();
-        if !line.starts_with('#') {
-            add_calls(heap, line, &mut calls)?;
-        }
-    }
-    Ok(calls)
+    script
+        .lines()
+        .map(|line| line.trim())
+        .filter(|line| !line.starts_with('#'))
+        .flat_map(|line| line.split(';'))
+        .map(|text| text.trim())
+        .filter(|text| !text.is_empty())
+        .map(|text| -> Result<Call, Failure> { call_of(text) })
+        .try_collect(heap)
 }
 
-fn add_calls(heap: Global, line: &str, calls: &mut Vec<Call>) -> Result<(), Failure> {
-    for text in line.split(';') {
-        let text = text.trim();
-        if !text.is_empty() {
-            calls.push(call_of(heap, text)?)?;
-        }
-    }
-    Ok(())
-}
-
-fn call_of(heap: Global, text: &str) -> Result<Call, Failure> {
-    match parsed(text) {
-        Some(call) => Ok(call),
-        None => Err(format!(in heap; "no such call: {text}")?.into()),
-    }
+fn call_of(text: &str) -> Result<Call, Failure> {
+    parsed(text).ok_or_else(|| anyhow!("no such call: {text}").into())
 }
 
 fn parsed(text: &str) -> Option<Call> {
@@ -79,17 +68,8 @@ fn parsed(text: &str) -> Option<Call> {
     match name {
         "enter" => Some(Call::Enter(number)),
         "strike" => Some(Call::Strike(number)),
-        "settle" => Some(Call::Settle(method_of(number)?)),
+        "settle" => Some(Call::Settle(Method::try_from(number).ok()?)),
         "ask" => Some(Call::Ask(number)),
-        _ => None,
-    }
-}
-
-// The method of a number, 1 or 2.
-pub(crate) fn method_of(number: u16) -> Option<Method> {
-    match number {
-        1 => Some(Method::First),
-        2 => Some(Method::Second),
         _ => None,
     }
 }

@@ -2,27 +2,31 @@
 use crate::failure::Failure;
 use crate::script::ReplyText;
 use crate::tariff_file::Tariff;
-use crate::text::{Braced, Facts};
-use crate::words::{answer_word, verdict_meaning};
 use books::book::TermBook;
 use marks::refusal::Refusal;
+use marks::set::MarkSet;
 use readings::method::Method;
+use readings::verdict::Verdict;
 use sheet::reply::{Counts, Reply, Settlement};
 use sheet::sheet::Sheet;
 use std::fmt;
+use texts::trip::{Closed, Facts};
+
+fn close(tariff: &Tariff, marks: &[u16]) -> Result<Closed, Refusal> {
+    let book = tariff.book()?;
+    let given = MarkSet::of(tariff.width, marks)?;
+    let mut closure = given;
+    let clash = book.close(&mut closure)?;
+    Ok(Closed {
+        given,
+        closure,
+        clash,
+    })
+}
 
 pub(crate) fn show_closed(rt: &HostRuntime, tariff: &Tariff, marks: &[u16]) -> Result<(), Failure> {
-    let book = tariff.book()?;
-    let given = tariff.set_of(marks)?;
-    let mut closure = given;
-    let how = if book.close(&mut closure)? {
-        "and clashes"
-    } else {
-        "without a clash"
-    };
-    let from = Braced(&given);
-    let to = Braced(&closure);
-    println!(rt; "{from} closes to {to} {how}")?;
+    let closed = close(tariff, marks)?;
+    println!(rt; "{closed}")?;
     Ok(())
 }
 
@@ -60,7 +64,7 @@ impl fmt::Display for CountsText {
 }
 
 pub(crate) fn show_counts(rt: &HostRuntime, tariff: &Tariff, marks: &[u16]) -> Result<(), Failure> {
-    let facts = tariff.set_of(marks)?;
+    let facts = MarkSet::of(tariff.width, marks)?;
     let trip = settle_trip(tariff, marks, Method::First)?;
     let given = Facts(&facts);
     let counts = CountsText(trip.sheet.counts()?);
@@ -74,7 +78,7 @@ pub(crate) fn show_settled(
     marks: &[u16],
     method: Method,
 ) -> Result<(), Failure> {
-    let facts = tariff.set_of(marks)?;
+    let facts = MarkSet::of(tariff.width, marks)?;
     let trip = settle_trip(tariff, marks, method)?;
     let given = Facts(&facts);
     let number = method.number();
@@ -83,7 +87,7 @@ pub(crate) fn show_settled(
     let counts = CountsText(trip.sheet.counts()?);
     println!(rt; "  counts: {counts}")?;
     let reply = ReplyText(Ok(Reply::Settled(trip.found)));
-    let meaning = verdict_meaning(trip.found.verdict);
+    let meaning = meaning(trip.found.verdict);
     println!(rt; "  {reply}: {meaning}")?;
     Ok(())
 }
@@ -92,8 +96,23 @@ pub(crate) fn show_settled(
 fn show_answers(rt: &HostRuntime, width: u16, sheet: &Sheet) -> Result<(), Failure> {
     println!(rt; "  mark  answer")?;
     for m in 0..width {
-        let answer = answer_word(sheet.ask(m)?);
+        let answer = sheet.ask(m)?;
         println!(rt; "  {m:>4}  {answer}")?;
     }
     Ok(())
+}
+
+// What a verdict means. Only broken says whether there is a sound reading.
+fn meaning(verdict: Verdict) -> &'static str {
+    match verdict {
+        Verdict::Clear => {
+            "no mark is both, and the terms hold back no line that would add a mark; \
+             this does not promise a sound reading"
+        }
+        Verdict::Suspect => {
+            "the terms hold back a line that would add a mark; \
+             this does not rule a sound reading out"
+        }
+        Verdict::Broken => "there is no sound reading",
+    }
 }

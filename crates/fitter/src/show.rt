@@ -28,16 +28,32 @@ impl fmt::Display for Opening {
     }
 }
 
+impl From<&Tariff> for Opening {
+    fn from(tariff: &Tariff) -> Opening {
+        Opening {
+            width: tariff.width,
+            fares: tariff.fares.len(),
+            terms: tariff.terms.len(),
+        }
+    }
+}
+
+impl From<Counts> for Opening {
+    fn from(counts: Counts) -> Opening {
+        Opening {
+            width: counts.width,
+            fares: counts.fares as usize,
+            terms: counts.terms as usize,
+        }
+    }
+}
+
 pub(crate) fn show_file(rt: &HostRuntime, name: &str) -> Result<(), Failure> {
     Ok(show_tariff(rt, &Tariff::load(rt, name)?)?)
 }
 
 pub(crate) fn show_tariff(rt: &HostRuntime, tariff: &Tariff) -> io::Result<()> {
-    let opening = Opening {
-        width: tariff.width,
-        fares: tariff.fares.len(),
-        terms: tariff.terms.len(),
-    };
+    let opening = Opening::from(tariff);
     println!(rt; "{opening}")?;
     show_fares(rt, tariff.fares.as_slice())?;
     show_terms(rt, tariff.terms.as_slice())
@@ -61,16 +77,7 @@ fn show_terms(rt: &HostRuntime, lines: &[TermLine]) -> io::Result<()> {
 
 pub(crate) fn check_file(rt: &HostRuntime, name: &str) -> Result<(), Failure> {
     let bytes = bytes_of(rt, name)?;
-    let Counts {
-        width,
-        fares,
-        terms,
-    } = check_tariff(&bytes)?;
-    let opening = Opening {
-        width,
-        fares: fares as usize,
-        terms: terms as usize,
-    };
+    let opening = Opening::from(check_tariff(&bytes)?);
     let length = Many(bytes.len(), "byte");
     println!(rt; "lawful: {opening}, {length}")?;
     Ok(())
@@ -105,8 +112,7 @@ pub(crate) fn rewrite_file(rt: &HostRuntime, from: &str) -> Result<Vec<u8>, Fail
 
 pub(crate) fn copy_file(rt: &HostRuntime, from: &str, to: &str) -> Result<(), Failure> {
     let written = rewrite_file(rt, from)?;
-    match fs::write(rt, to, written.as_slice()) {
-        Ok(()) => Ok(println!(rt; "written to {to}")?),
-        Err(error) => Err(cannot(rt.alloc(), "write", to, error)),
-    }
+    fs::write(rt, to, written.as_slice()).map_err(|error| cannot("write", to, error))?;
+    println!(rt; "written to {to}")?;
+    Ok(())
 }

@@ -1,5 +1,5 @@
 // Fare lines, term lines and bars.
-use crate::made::{fare, none, one, refused, set, term, two};
+use crate::made::{fare, list, refused, term};
 use lines::admission::Admission;
 use lines::bar::Bar;
 use lines::check::check_records;
@@ -7,32 +7,33 @@ use lines::fare::MOST_FARES;
 use lines::list::MarkList;
 use lines::pass::pass;
 use lines::term::Kind;
+use marks::set::MarkSet;
 use std::test::Fail;
 
 // 1024 fare lines are taken and 1025 are not; 8 conditions are and 9 are not.
 #[test]
 fn limits(rt: HostRuntime) {
-    let line = fare(8, none(), none());
+    let line = fare(8, list(&[]), list(&[]));
     assert!(rt; check_records(&[line; 1024], MOST_FARES, 9).is_ok());
     assert!(rt; refused(check_records(&[line; 1025], MOST_FARES, 9), 8));
     let marks = [0, 1, 2, 3, 4, 5, 6, 8];
     let eight = MarkList { count: 8, marks };
     let nine = MarkList { count: 9, marks };
     assert!(rt; check_records(&[fare(8, eight, eight)], 1, 9).is_ok());
-    assert!(rt; refused(check_records(&[fare(8, nine, none())], 1, 9), 8));
-    assert!(rt; refused(check_records(&[fare(8, none(), nine)], 1, 9), 8));
+    assert!(rt; refused(check_records(&[fare(8, nine, list(&[]))], 1, 9), 8));
+    assert!(rt; refused(check_records(&[fare(8, list(&[]), nine)], 1, 9), 8));
 }
 
 // Marks ascend strictly and lie below the width; unused places, and the head of a denial, may hold anything.
 #[test]
 fn lawful_marks(rt: HostRuntime) {
-    assert!(rt; check_records(&[fare(8, two(0, 8), one(8))], 1, 9).is_ok());
-    assert!(rt; refused(check_records(&[fare(9, none(), none())], 1, 9), 8));
-    assert!(rt; refused(check_records(&[fare(0, two(1, 1), none())], 1, 9), 8));
-    assert!(rt; refused(check_records(&[fare(0, none(), two(1, 0))], 1, 9), 8));
-    assert!(rt; refused(check_records(&[fare(0, none(), two(0, 9))], 1, 9), 8));
-    assert!(rt; check_records(&[term(Kind::Denies, 9999, one(0))], 1, 9).is_ok());
-    assert!(rt; refused(check_records(&[term(Kind::Gives, 9999, one(0))], 1, 9), 8));
+    assert!(rt; check_records(&[fare(8, list(&[0, 8]), list(&[8]))], 1, 9).is_ok());
+    assert!(rt; refused(check_records(&[fare(9, list(&[]), list(&[]))], 1, 9), 8));
+    assert!(rt; refused(check_records(&[fare(0, list(&[1, 1]), list(&[]))], 1, 9), 8));
+    assert!(rt; refused(check_records(&[fare(0, list(&[]), list(&[1, 0]))], 1, 9), 8));
+    assert!(rt; refused(check_records(&[fare(0, list(&[]), list(&[0, 9]))], 1, 9), 8));
+    assert!(rt; check_records(&[term(Kind::Denies, 9999, list(&[0]))], 1, 9).is_ok());
+    assert!(rt; refused(check_records(&[term(Kind::Gives, 9999, list(&[0]))], 1, 9), 8));
     assert!(rt; check_records(&[Bar { low: 0, high: 8 }], 1, 9).is_ok());
     assert!(rt; refused(check_records(&[Bar { low: 8, high: 8 }], 1, 9), 8));
 }
@@ -44,12 +45,12 @@ fn compared(rt: HostRuntime) {
         count: 1,
         marks: [3; 8],
     };
-    assert!(rt; fare(1, one(3), none()) == fare(1, other, none()));
-    assert!(rt; fare(1, one(3), none()) != fare(2, one(3), none()));
-    assert!(rt; fare(1, one(3), none()) != fare(1, none(), one(3)));
-    assert!(rt; term(Kind::Denies, 1, one(3)) == term(Kind::Denies, 2, other));
-    assert!(rt; term(Kind::Gives, 1, one(3)) != term(Kind::Gives, 2, one(3)));
-    assert!(rt; term(Kind::Gives, 1, one(3)) != term(Kind::Denies, 1, one(3)));
+    assert!(rt; fare(1, list(&[3]), list(&[])) == fare(1, other, list(&[])));
+    assert!(rt; fare(1, list(&[3]), list(&[])) != fare(2, list(&[3]), list(&[])));
+    assert!(rt; fare(1, list(&[3]), list(&[])) != fare(1, list(&[]), list(&[3])));
+    assert!(rt; term(Kind::Denies, 1, list(&[3])) == term(Kind::Denies, 2, other));
+    assert!(rt; term(Kind::Gives, 1, list(&[3])) != term(Kind::Gives, 2, list(&[3])));
+    assert!(rt; term(Kind::Gives, 1, list(&[3])) != term(Kind::Denies, 1, list(&[3])));
     assert!(rt; Bar { low: 1, high: 2 } != Bar { low: 1, high: 3 });
 }
 
@@ -57,16 +58,16 @@ fn compared(rt: HostRuntime) {
 #[test]
 fn term_pass(rt: HostRuntime) -> Result<(), Fail> {
     let lines = [
-        term(Kind::Gives, 3, one(2)),
-        term(Kind::Gives, 2, one(1)),
-        term(Kind::Denies, 0, two(1, 2)),
+        term(Kind::Gives, 3, list(&[2])),
+        term(Kind::Gives, 2, list(&[1])),
+        term(Kind::Denies, 0, list(&[1, 2])),
     ];
-    let mut s = set(4, &[1])?;
+    let mut s = MarkSet::of(4, &[1])?;
     let first = pass(&lines, &(), &mut s);
     assert!(rt; first.added && first.stood);
-    assert!(rt; s.same_marks(&set(4, &[1, 2])?)?);
+    assert!(rt; s.same_marks(&MarkSet::of(4, &[1, 2])?)?);
     assert!(rt; pass(&lines, &(), &mut s).added);
-    assert!(rt; s.same_marks(&set(4, &[1, 2, 3])?)?);
+    assert!(rt; s.same_marks(&MarkSet::of(4, &[1, 2, 3])?)?);
     assert!(rt; !pass(&lines, &(), &mut s).added);
     Ok(())
 }
@@ -75,20 +76,20 @@ fn term_pass(rt: HostRuntime) -> Result<(), Fail> {
 #[test]
 fn fare_pass(rt: HostRuntime) -> Result<(), Fail> {
     let lines = [
-        fare(1, one(0), one(4)),
-        fare(2, one(0), one(5)),
-        fare(3, one(0), none()),
-        fare(4, two(0, 5), none()),
-        fare(5, none(), none()),
+        fare(1, list(&[0]), list(&[4])),
+        fare(2, list(&[0]), list(&[5])),
+        fare(3, list(&[0]), list(&[])),
+        fare(4, list(&[0, 5]), list(&[])),
+        fare(5, list(&[]), list(&[])),
     ];
     let gate = Admission {
-        exceptions: set(6, &[4])?,
-        denied: set(6, &[3])?,
-        refuted: set(6, &[5])?,
+        exceptions: MarkSet::of(6, &[4])?,
+        denied: MarkSet::of(6, &[3])?,
+        refuted: MarkSet::of(6, &[5])?,
     };
-    let mut s = set(6, &[0])?;
+    let mut s = MarkSet::of(6, &[0])?;
     let passed = pass(&lines, &gate, &mut s);
     assert!(rt; passed.added && !passed.stood);
-    assert!(rt; s.same_marks(&set(6, &[0, 2, 5])?)?);
+    assert!(rt; s.same_marks(&MarkSet::of(6, &[0, 2, 5])?)?);
     Ok(())
 }

@@ -3,34 +3,16 @@ use lines::fare::FareLine;
 use lines::list::MarkList;
 use lines::term::{Kind, TermLine};
 use marks::refusal::Refusal;
-use marks::set::MarkSet;
 
-pub(crate) fn set(width: u16, marks: &[u16]) -> Result<MarkSet, Refusal> {
-    let mut made = MarkSet::empty(width)?;
-    for m in marks {
-        made.insert(*m)?;
+// A list of these marks, at most eight; the places behind them hold 9999.
+pub(crate) fn list(marks: &[u16]) -> MarkList {
+    let mut places = [9999; 8];
+    for (place, m) in places.iter_mut().zip(marks) {
+        *place = *m;
     }
-    Ok(made)
-}
-
-pub(crate) fn none() -> MarkList {
     MarkList {
-        count: 0,
-        marks: [9999; 8],
-    }
-}
-
-pub(crate) fn one(a: u16) -> MarkList {
-    MarkList {
-        count: 1,
-        marks: [a, 9999, 9999, 9999, 9999, 9999, 9999, 9999],
-    }
-}
-
-pub(crate) fn two(a: u16, b: u16) -> MarkList {
-    MarkList {
-        count: 2,
-        marks: [a, b, 9999, 9999, 9999, 9999, 9999, 9999],
+        count: marks.len().min(8) as u8,
+        marks: places,
     }
 }
 

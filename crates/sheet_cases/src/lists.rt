@@ -1,7 +1,8 @@
 // Lists of calls, with a kind of book from outside.
-use crate::made::{done, fare, refused, set, settled, told};
+use crate::made::{done, fare, refused, settled, told};
 use example_book::AlwaysBook;
 use marks::refusal::Refusal;
+use marks::set::MarkSet;
 use readings::answer::Answer;
 use readings::method::Method;
 use runs::list::perform_all;
@@ -13,7 +14,7 @@ use std::test::Fail;
 #[test]
 fn refused_among_others(rt: HostRuntime) -> Result<(), Fail> {
     let book = AlwaysBook {
-        marks: set(4, &[0])?,
+        marks: MarkSet::of(4, &[0])?,
     };
     let calls = [
         Call::Ask(2),
@@ -49,7 +50,7 @@ fn refused_among_others(rt: HostRuntime) -> Result<(), Fail> {
 #[test]
 fn records_and_widths(rt: HostRuntime) -> Result<(), Fail> {
     let book = AlwaysBook {
-        marks: set(512, &[])?,
+        marks: MarkSet::of(512, &[])?,
     };
     let calls = [Call::Enter(511), Call::Enter(512)];
     let mut replies = [Err(Refusal::BytesEnd); 2];

@@ -4,18 +4,9 @@ use lines::fare::FareLine;
 use lines::list::MarkList;
 use lines::term::{Kind, TermLine};
 use marks::refusal::Refusal;
-use marks::set::MarkSet;
 use readings::answer::Answer;
 use sheet::reply::Reply;
 use sheet::sheet::Sheet;
-
-pub(crate) fn set(width: u16, marks: &[u16]) -> Result<MarkSet, Refusal> {
-    let mut made = MarkSet::empty(width)?;
-    for m in marks {
-        made.insert(*m)?;
-    }
-    Ok(made)
-}
 
 fn one(a: u16) -> MarkList {
     MarkList {
@@ -67,11 +58,8 @@ pub(crate) fn sheet(width: u16, facts: &[u16]) -> Result<Sheet, Refusal> {
 }
 
 // Whether the call was refused with that number.
-pub(crate) fn refused<A: Copy>(r: Result<A, Refusal>, number: u8) -> bool {
-    match r {
-        Ok(_) => false,
-        Err(why) => why.number() == number,
-    }
+pub(crate) fn refused<T: Drop>(r: Result<T, Refusal>, number: u8) -> bool {
+    r.is_err_and(|why| why.number() == number)
 }
 
 // Whether an enter or a strike was done.
@@ -81,16 +69,13 @@ pub(crate) fn done(r: Result<Reply, Refusal>) -> bool {
 
 // Whether a settle gave the verdict of that number, after so many rounds.
 pub(crate) fn settled(r: Result<Reply, Refusal>, verdict: u8, rounds: u16) -> bool {
-    match r {
-        Ok(Reply::Settled(found)) => found.verdict.number() == verdict && found.rounds == rounds,
-        _ => false,
-    }
+    matches!(
+        r,
+        Ok(Reply::Settled(found)) if found.verdict.number() == verdict && found.rounds == rounds
+    )
 }
 
 // Whether an ask had this answer.
 pub(crate) fn told(r: Result<Reply, Refusal>, answer: Answer) -> bool {
-    match r {
-        Ok(Reply::Told(a)) => a == answer,
-        _ => false,
-    }
+    matches!(r, Ok(Reply::Told(a)) if a == answer)
 }

@@ -1,6 +1,7 @@
 // Sheets, call by call.
-use crate::made::{refused, sample_book, sample_fares, set, sheet};
+use crate::made::{refused, sample_book, sample_fares, sheet};
 use books::bare::BareBook;
+use marks::set::MarkSet;
 use readings::answer::Answer;
 use readings::method::Method;
 use readings::verdict::Verdict;
@@ -32,9 +33,9 @@ fn tried_and_compared(rt: HostRuntime) -> Result<(), Fail> {
     let fares = sample_fares();
     let book = sample_book()?;
     let mut first = sheet(5, &[0, 3])?;
-    assert!(rt; first.try_set(&fares, &book, &set(5, &[0, 2, 3, 4])?)?);
-    assert!(rt; !first.try_set(&fares, &book, &set(5, &[1, 3])?)?);
-    assert!(rt; refused(first.try_set(&fares, &book, &set(6, &[])?), 7));
+    assert!(rt; first.try_set(&fares, &book, &MarkSet::of(5, &[0, 2, 3, 4])?)?);
+    assert!(rt; !first.try_set(&fares, &book, &MarkSet::of(5, &[1, 3])?)?);
+    assert!(rt; refused(first.try_set(&fares, &book, &MarkSet::of(6, &[])?), 7));
     let mut second = first;
     first.settle(&fares, &book, Method::First)?;
     assert!(rt; refused(first.alike(&second), 12));
