@@ -7,6 +7,7 @@ use books::book::TermBook;
 use lines::fare::FareLine;
 use marks::set::MarkSet;
 use readings::method::Method;
+use readings::reading::Reading;
 use settling::settle::settle;
 use settling::sound::is_sound;
 use sheet::call::Call;
@@ -162,8 +163,9 @@ fn settle_facts<B: TermBook>(
         Ok(judged) => {
             let verdict = judged.verdict;
             let rounds = judged.settled.rounds;
-            let lower = Marks(&judged.settled.lower);
-            let upper = Marks(&judged.settled.upper);
+            let Reading { lower, upper } = judged.settled.reading;
+            let lower = Marks(&lower);
+            let upper = Marks(&upper);
             Ok(format!(in heap; "ok {verdict} {rounds} {lower} {upper}")?)
         }
     }

@@ -4,6 +4,7 @@ use books::book::TermBook;
 use marks::refusal::Refusal;
 use marks::set::MarkSet;
 use readings::method::Method;
+use readings::reading::Reading;
 use settling::settle::{Judged, settle};
 use std::{fmt, io};
 use texts::listed::Braced;
@@ -69,7 +70,7 @@ struct Answers {
 
 fn by_method(facts: &MarkSet, method: Method) -> Result<ByMethod, Refusal> {
     let judged = settle(&sample::fares(), &sample::book()?, facts, method)?;
-    let answers = answered(&judged.settled.lower, &judged.settled.upper)?;
+    let answers = answered(&judged.settled.reading)?;
     Ok(ByMethod {
         method,
         judged,
@@ -77,7 +78,8 @@ fn by_method(facts: &MarkSet, method: Method) -> Result<ByMethod, Refusal> {
     })
 }
 
-fn answered(lower: &MarkSet, upper: &MarkSet) -> Result<Answers, Refusal> {
+fn answered(reading: &Reading) -> Result<Answers, Refusal> {
+    let Reading { lower, upper } = reading;
     let mut holds = *lower;
     holds.intersect_with(upper)?;
     let mut not = MarkSet::full(lower.width())?;
@@ -100,8 +102,8 @@ impl fmt::Display for ByMethod {
         let number = self.method.number();
         let verdict = self.judged.verdict;
         let rounds = self.judged.settled.rounds;
-        let lower = Braced(&self.judged.settled.lower);
-        let upper = Braced(&self.judged.settled.upper);
+        let lower = Braced(&self.judged.settled.reading.lower);
+        let upper = Braced(&self.judged.settled.reading.upper);
         let answers = self.answers;
         writeln!(f, "  method {number}: {verdict} after {rounds} rounds")?;
         writeln!(f, "    T {lower}, U {upper}")?;
