@@ -3,6 +3,7 @@ ghost use Rattle.std.specs.Prelude.{◌≡◌, ◌≤◌};
 ghost use Rattle.marks.specs.Sets.{OfWidth};
 ghost use Rattle.marks.specs.Words.{held};
 
+mod looks;
 mod ops;
 mod words;
 

@@ -8,8 +8,7 @@ ghost use Rattle.marks.specs.Sets.{◌⊆◌, no_marks, below, listed, with_mark
 
 use super::MarkSet;
 use super::words::{
-    count_marks, count_overlap, has_mark, join_words, next_mark, no_words, put_mark, take_mark,
-    words_below, words_same, words_within,
+    has_mark, join_words, no_words, put_mark, take_mark, words_below, words_same, words_within,
 };
 use crate::overlap::Overlap;
 use crate::refusal::Refusal;
@@ -149,14 +148,14 @@ impl MarkSet {
         ensures next { Next (marks_of self.now) at result }
         ensures within { IfSome result (λ m. m < self.now.width) }
     {
-        next_mark(&self.words, self.width, at)
+        self.next_mark(at)
     }
 
     // How many marks the set holds.
     pub fn count(&self) -> u16
         ensures { result ≡ size self.now.width (marks_of self.now) }
     {
-        count_marks(&self.words, self.width)
+        self.count_marks()
     }
 
     // How many marks of the width lie in both sets, in neither, in this one alone and in the other alone.
@@ -164,6 +163,6 @@ impl MarkSet {
         ensures { Test (self.now.width ≢ other.now.width) (Refuses result 7) (Gives result (Overlaps self.now.width (below self.now.width) (marks_of self.now) (marks_of other.now))) }
     {
         self.same_width(other)?;
-        Ok(count_overlap(&self.words, &other.words, self.width))
+        Ok(self.count_overlap(other))
     }
 }

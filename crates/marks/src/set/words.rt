@@ -1,6 +1,6 @@
-// The words of a set: a mark put in or taken out, two sets joined, compared or searched, word by word.
-ghost use Rattle.std.specs.Prelude.{◌≡◌, ℕ, ◌+◌, ◌*◌, ◌<◌, ◌≤◌, IfSome, Decides, nat_lt};
-ghost use Rattle.marks.specs.Sets.{◌⊆◌, no_marks, below, OfWidth, with_mark, without_mark, size, Next};
+// The words of a set: a mark put in or taken out, two sets joined or compared, word by word.
+ghost use Rattle.std.specs.Prelude.{◌≡◌, ℕ, ◌+◌, ◌*◌, ◌<◌, ◌≤◌, Decides, nat_lt};
+ghost use Rattle.marks.specs.Sets.{◌⊆◌, no_marks, below, OfWidth, with_mark, without_mark, size};
 ghost use Rattle.marks.specs.Joins.{joined, BitOp, Computes};
 ghost use Rattle.marks.specs.Overlaps.{Overlaps};
 ghost use Rattle.marks.specs.Words.{bit, held};
@@ -8,7 +8,7 @@ ghost use Rattle.marks.specs.Words.{bit, held};
 use crate::overlap::Overlap;
 
 // The marks of the word `i` that lie below the width.
-fn word_below(width: u16, i: usize) -> u64
+pub(super) fn word_below(width: u16, i: usize) -> u64
     requires { i < 8 }
     ensures { (k : ℕ) → k < 64 → bit result k ≡ nat_lt (64 * i + k) width }
 {
@@ -86,35 +86,15 @@ pub(super) fn words_same(a: &[u64; 8], b: &[u64; 8]) -> bool
     a == b
 }
 
-// The lowest mark at or after `at`, found by the zeros below it in its word.
-pub(super) fn next_mark(words: &[u64; 8], width: u16, at: u16) -> Option<u16>
-    requires few { width ≤ 512 }
-    requires inside { OfWidth width (held words.now) }
-    ensures next { Next (held words.now) at result }
-    ensures within { IfSome result (λ m. m < width) }
-{
-    let mut from = at;
-    while from < width {
-        let rest = words[(from / 64) as usize] >> (from % 64);
-        if rest != 0 {
-            return Some(from + rest.trailing_zeros() as u16);
-        }
-        from = (from / 64 + 1) * 64;
-    }
-    None
-}
-
-// How many marks the words hold, none of them at or above the width.
-pub(super) fn count_marks(words: &[u64; 8], width: u16) -> u16
-    requires few { width ≤ 512 }
-    requires inside { OfWidth width (held words.now) }
-    ensures { result ≡ size width (held words.now) }
+// How many marks the eight words hold.
+pub(super) fn count_held(words: &[u64; 8]) -> u16
+    ensures { result ≡ size 512 (held words.now) }
 {
     words.iter().map(|w| w.count_ones() as u16).sum()
 }
 
 // The share of one word; `used` has the marks in use.
-fn overlap_word(a: u64, b: u64, used: u64) -> Overlap
+pub(super) fn overlap_word(a: u64, b: u64, used: u64) -> Overlap
     ensures { Overlaps 64 (bit used) (bit a) (bit b) result }
 {
     Overlap {
@@ -123,28 +103,4 @@ fn overlap_word(a: u64, b: u64, used: u64) -> Overlap
         first: (a & !b).count_ones() as u16,
         second: (b & !a).count_ones() as u16,
     }
-}
-
-// How the marks below the width are shared out, by the ones of the two sets' words combined. By index, since the third word of
-// each turn is made from it, and since each word is looked at once.
-pub(super) fn count_overlap(a: &[u64; 8], b: &[u64; 8], width: u16) -> Overlap
-    requires few { width ≤ 512 }
-    requires first { OfWidth width (held a.now) }
-    requires second { OfWidth width (held b.now) }
-    ensures { Overlaps width (below width) (held a.now) (held b.now) result }
-{
-    let mut total = Overlap {
-        both: 0,
-        neither: 0,
-        first: 0,
-        second: 0,
-    };
-    for i in 0..8 {
-        let word = overlap_word(a[i], b[i], word_below(width, i));
-        total.both += word.both;
-        total.neither += word.neither;
-        total.first += word.first;
-        total.second += word.second;
-    }
-    total
 }

@@ -2,10 +2,9 @@ use Rattle.std.proofs.Common.{rules, ◌≡◌, ◌<◌, ◌^◌, ◌*◌, lengt
 use lib.Count.{ones}
 use Rattle.marks.specs.Sets.{size}
 use Rattle.marks.specs.Words.{held}
-use Rattle.marks.proofs.Sets.{past_width, fails}
-use Rattle.marks.proofs.Sizes.{size_le, size_gap}
+use Rattle.marks.proofs.Sizes.{size_le}
 use Rattle.marks.proofs.Words.{ones_held}
-use Rattle.marks.proofs.set.words.count_marks.Goals as goal
+use Rattle.marks.proofs.set.words.count_held.Goals as goal
 
 pub sum-requires-clause-fits : goal.sum-requires-clause-fits
 sum-requires-clause-fits c =
@@ -18,8 +17,6 @@ sum-requires-clause-fits c =
 pub returns : goal.returns
 returns c =
     let ws = c.args.words.now in
-    let w = c.args.width in
     let ones : c.sum.result ≡ sum_by ones ws = search rules in
     let all : 64 * length ws ≡ 512 = omega arith in
     ones ∙ ones_held ws c.fits-words ∙ ap (λ (n : ℕ). size n (held ws)) all
-    ∙ size_gap w 512 (held ws) c.requires.few (λ k h l t. fails (past_width w (held ws) c.requires.inside k h) t)
