@@ -10,7 +10,11 @@ use std::test::Fail;
 #[test]
 fn grows(rt: HostRuntime) -> Result<(), Fail> {
     let mut book = LineBook::new(5)?;
-    book.fill(&[denies(list(&[2, 3])), gives(list(&[0, 1]), 2), gives(list(&[]), 0)])?;
+    book.fill(&[
+        denies(list(&[2, 3])),
+        gives(list(&[0, 1]), 2),
+        gives(list(&[]), 0),
+    ])?;
     let mut s = MarkSet::of(5, &[1])?;
     assert!(rt; !book.close(&mut s)?);
     assert!(rt; s.same_marks(&MarkSet::of(5, &[0, 1, 2])?)?);

@@ -33,7 +33,12 @@ fn lawful_marks(rt: HostRuntime) {
     assert!(rt; refused(check_records(&[fare(0, list(&[]), list(&[1, 0]))], 1, 9), 8));
     assert!(rt; refused(check_records(&[fare(0, list(&[]), list(&[0, 9]))], 1, 9), 8));
     assert!(rt; check_records(&[term(Kind::Denies, 9999, list(&[0]))], 1, 9).is_ok());
-    assert!(rt; refused(check_records(&[term(Kind::Gives, 9999, list(&[0]))], 1, 9), 8));
+    assert!(rt;
+        refused(
+            check_records(&[term(Kind::Gives, 9999, list(&[0]))], 1, 9),
+            8
+        )
+    );
     assert!(rt; check_records(&[Bar { low: 0, high: 8 }], 1, 9).is_ok());
     assert!(rt; refused(check_records(&[Bar { low: 8, high: 8 }], 1, 9), 8));
 }
