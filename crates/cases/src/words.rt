@@ -16,19 +16,31 @@ pub(crate) fn amount(text: &str) -> anyhow::Result<usize> {
     text.parse::<usize>().context("no number")
 }
 
+// Written as one of two words, not as any number: 01 is no method.
 pub(crate) fn method(text: &str) -> anyhow::Result<Method> {
-    let number = text.parse::<u16>().ok();
-    number
-        .and_then(|n| Method::try_from(n).ok())
-        .context("a method is 1 or 2")
+    match text {
+        "1" => Ok(Method::First),
+        "2" => Ok(Method::Second),
+        _ => Err(anyhow!("a method is 1 or 2")),
+    }
 }
 
-// The bytes that HEX spells.
+fn is_digit(b: u8) -> bool {
+    matches!(b, b'0'..=b'9' | b'a'..=b'f')
+}
+
+// The bytes that HEX spells, in lower case.
 pub(crate) fn bytes(heap: Global, hex: &str) -> anyhow::Result<Vec<u8>> {
     let digits = if hex == "-" { "" } else { hex };
+    let (pairs, _) = digits.as_bytes().as_chunks::<2>();
+    if !pairs
+        .iter()
+        .all(|[high, low]| is_digit(*high) && is_digit(*low))
+    {
+        return Err(anyhow!("no hexadecimal digit"));
+    }
     hex::decode(heap, digits).map_err(|error| match error {
         FromHexError::OutOfMemory => AllocError.into(),
-        FromHexError::InvalidHexCharacter { .. } => anyhow!("no hexadecimal digit"),
         _ => anyhow!("a byte is two hexadecimal digits"),
     })
 }
