@@ -6,10 +6,9 @@ ghost use Rattle.readings.specs.WellFounded.{bare};
 ghost use Rattle.std.proofs.Common.{rules};
 
 use crate::book::TermBook;
-use crate::width::check_set_width;
 use marks::refusal::Refusal;
 use marks::set::MarkSet;
-use marks::width::check_width;
+use marks::width::{check_set_width, check_width};
 
 // It adds nothing and never clashes.
 #[derive(Clone, Copy)]

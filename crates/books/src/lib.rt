@@ -7,4 +7,3 @@ pub mod book;
 pub mod table;
 pub mod theorems;
 pub mod whole;
-pub mod width;

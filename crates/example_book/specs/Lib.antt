@@ -1,1 +1,2 @@
 pub mod Always
+pub mod Laws

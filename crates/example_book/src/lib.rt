@@ -1,12 +1,12 @@
 // A kind of book of one's own, as small as can be: some marks always hold.
 //
-// This is all that a kind owes: a meaning (specs/Always.antt), that it keeps the laws of books (here the search finds the proof),
-// its width, and closing. What is proved of every book then holds of it too; a barred book can stand on it, for instance.
+// This is all that a kind owes: a meaning (specs/Always.antt), that it keeps the laws of books (specs/Laws.antt), its width, and
+// closing. What is proved of every book then holds of it too; a barred book can stand on it, for instance.
 #![tactic(auto)]
 
 ghost use Rattle.example_book.specs.Always.{always};
 ghost use Rattle.marks.specs.MarkSets.{marks_of};
-ghost use Rattle.std.proofs.Common.{rules};
+ghost use Rattle.example_book.specs.Laws.{always_lawful};
 
 use books::book::TermBook;
 use marks::refusal::Refusal;
@@ -21,7 +21,7 @@ pub struct AlwaysBook {
 impl TermBook for AlwaysBook {
     ghost book = { λ b. always b.marks.width (marks_of b.marks) };
 
-    ghost lawful = { Prim.search rules };
+    ghost lawful = { λ b. always_lawful b.marks.width (marks_of b.marks) b.marks.inside };
 
     fn width(&self) -> u16 {
         self.marks.width()

@@ -1,6 +1,6 @@
 // Why a host call is refused.
 ghost use Rattle.std.specs.Prelude.{◌≡◌};
-ghost use Rattle.host.specs.declared.refused.Refused.TheVariants.{Facts, File};
+ghost use Rattle.host.specs.declared.refused.Refused.TheVariants.{File};
 ghost use Rattle.host.specs.Refused.{refused_number};
 
 use marks::refusal::Refusal;
@@ -32,13 +32,5 @@ impl From<FileFault> for Refused {
 
     fn from(fault: FileFault) -> Refused {
         Refused::File(fault)
-    }
-}
-
-impl From<NumberFault> for Refused {
-    ghost from_gives = { λ f r. r ≡ Facts f };
-
-    fn from(fault: NumberFault) -> Refused {
-        Refused::Facts(fault)
     }
 }

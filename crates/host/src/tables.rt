@@ -1,8 +1,8 @@
 // The records that a tariff file is read into.
 ghost use Rattle.host.specs.Steps.{Loaded};
 
-use lines::fare::FareLine;
-use lines::term::TermLine;
+use lines::fare::{FareLine, MOST_FARES};
+use lines::term::{MOST_TERMS, TermLine};
 use tariff_format::counts::Counts;
 use tariff_format::fault::FileFault;
 use tariff_reader::read::read_tariff;
@@ -11,21 +11,17 @@ use tariff_reader::read::read_tariff;
 #[derive(Drop)]
 pub(crate) struct Tables {
     pub(crate) counts: Counts,
-    pub(crate) fares: [FareLine; 1024],
-    pub(crate) terms: [TermLine; 512],
+    pub(crate) fares: [FareLine; MOST_FARES],
+    pub(crate) terms: [TermLine; MOST_TERMS],
 }
 
 impl Default for Tables {
     // Tables that nothing was read into yet.
     fn default() -> Tables {
         Tables {
-            counts: Counts {
-                width: 0,
-                fares: 0,
-                terms: 0,
-            },
-            fares: [FareLine::default(); 1024],
-            terms: [TermLine::default(); 512],
+            counts: Counts::default(),
+            fares: [FareLine::default(); MOST_FARES],
+            terms: [TermLine::default(); MOST_TERMS],
         }
     }
 }

@@ -32,7 +32,7 @@ pub(crate) fn read_inputs(
 {
     tables.load(file)?;
     let width = tables.counts.width;
-    let set = facts_of(width, facts)?;
+    let set = facts_of(width, facts).map_err(Refused::Facts)?;
     if room < width as usize {
         return Err(Refused::Output);
     }

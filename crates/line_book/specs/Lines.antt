@@ -11,9 +11,9 @@ use Rattle.readings.specs.Computed.{listed, among, filled}
 use Rattle.readings.specs.WellFounded.{bare}
 use Rattle.readings.specs.Rules.{Rule}
 
--- all lines are lawful for the width (how this is shown does not matter)
+-- all lines are lawful for the width
 abbrev pub LawfulLines : ℕ → List TermLine → Type 0
-LawfulLines w lines = ∥ AllByRecursion (LawfulTerm w) lines ∥₁
+LawfulLines w lines = AllByRecursion (LawfulTerm w) lines
 
 -- a giving line is a rule without exceptions, and a denial is none
 abbrev pub giving : Option ℕ → List ℕ → List Rule

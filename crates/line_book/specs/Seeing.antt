@@ -3,9 +3,6 @@ use Rattle.std.specs.Prelude.{◌≡◌, ℕ, ◌<◌, List, [], ◌∷◌, map,
 use mathlib.Core.List.Memᴰ
 use mathlib.Core.List.{Memᴰ}
 use Rattle.std.proofs.Common.{inl, inr, sym, ap, subst, ◌∙◌}
-use Rattle.std.proofs.Math.Logic.{∥∥₁_elim}
-use Rattle.std.proofs.Math.Bridge.{le_prop}
-use Rattle.std.specs.List.{AllByRecursion}
 use Rattle.lines.specs.declared.term.TermLine.{TermLine}
 use Rattle.lines.specs.Lawful.{LawfulTerm}
 use Rattle.lines.specs.Passes.{View}
@@ -25,16 +22,13 @@ HeadsBelow w ls = (l : TermLine) (h : ℕ) → Memᴰ l ls → term_head l ≡ S
 head_below : (w : ℕ) (l : TermLine) (h : ℕ) → term_head l ≡ Some h → LawfulTerm w l → h < w
 head_below w l h e law = subst (λ (o : Option ℕ). IfSome o (λ m. m < w)) e law.head
 
-each_head : (w : ℕ) (ls : List TermLine) → AllByRecursion (LawfulTerm w) ls → HeadsBelow w ls
-each_head w [] law l h i e = absurd (Memᴰ.not-nil i)
-each_head w (k ∷ ks) law l h i e =
+pub heads_below : (w : ℕ) (ls : List TermLine) → LawfulLines w ls → HeadsBelow w ls
+heads_below w [] law l h i e = absurd (Memᴰ.not-nil i)
+heads_below w (k ∷ ks) law l h i e =
     elim (Memᴰ.cases_cons i) [
       | inl p ↦ head_below w k h (ap term_head (sym p) ∙ e) law.0
-      | inr j ↦ each_head w ks law.1 l h j e
+      | inr j ↦ heads_below w ks law.1 l h j e
     ]
-
-pub heads_below : (w : ℕ) (ls : List TermLine) → LawfulLines w ls → HeadsBelow w ls
-heads_below w ls law l h i e = ∥∥₁_elim law le_prop (λ each. each_head w ls each l h i e)
 
 line_fires : (ls : List TermLine) (l : TermLine) (X : Marks) → Memᴰ l ls → AllIn (term_conditions l) X → Fires (map term_view ls) (term_view l) X
 line_fires ls l X i a = record { line = Memᴰ.map term_view i; admitted = tt; conditions = a }

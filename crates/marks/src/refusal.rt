@@ -5,7 +5,7 @@ ghost use Rattle.marks.specs.Refusals.{number};
 use std::fmt;
 
 // A refused call answers one of these and changes nothing.
-#[derive(Clone, Copy, Debug, Drop, PartialEq)]
+#[derive(Clone, Copy, Debug, PartialEq)]
 pub enum Refusal {
     // the bytes end where a number must start, or inside an unfinished one
     BytesEnd = 1,

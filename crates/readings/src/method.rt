@@ -2,9 +2,6 @@
 ghost use Rattle.std.specs.Prelude.{◌≡◌};
 ghost use Rattle.readings.specs.Says.{the_method, Numbers};
 
-use std::error::Error;
-use std::fmt;
-
 #[derive(Clone, Copy, Debug, PartialEq, Eq)]
 pub enum Method {
     // the alternating fixpoint
@@ -38,11 +35,3 @@ impl TryFrom<u16> for Method {
         }
     }
 }
-
-impl fmt::Display for UnknownMethod {
-    fn fmt<W: fmt::Write>(&self, f: &mut fmt::Formatter<W>) -> fmt::Result {
-        write!(f, "a method is 1 or 2, not {}", self.0)
-    }
-}
-
-impl Error for UnknownMethod {}

@@ -16,16 +16,23 @@ pub struct Reading {
     ghost even: { upper.width ≡ lower.width },
 }
 
+// The answer that T and U give of the mark, whatever their widths.
+pub fn answer_of(lower: &MarkSet, upper: &MarkSet, m: u16) -> Answer
+    ensures { (the_answer result).says (marks_of lower.now) (marks_of upper.now) m }
+{
+    match (lower.contains(m), upper.contains(m)) {
+        (false, false) => Answer::Not,
+        (true, true) => Answer::Holds,
+        (false, true) => Answer::Open,
+        (true, false) => Answer::Both,
+    }
+}
+
 impl Reading {
-    // The answer that T and U give of the mark.
+    // The answer that it gives of the mark.
     pub fn answer(&self, m: u16) -> Answer
         ensures { (the_answer result).says (marks_of self.now.lower) (marks_of self.now.upper) m }
     {
-        match (self.lower.contains(m), self.upper.contains(m)) {
-            (false, false) => Answer::Not,
-            (true, true) => Answer::Holds,
-            (false, true) => Answer::Open,
-            (true, false) => Answer::Both,
-        }
+        answer_of(&self.lower, &self.upper, m)
     }
 }

@@ -1,12 +1,10 @@
 -- What the calls of this crate test and answer.
-use Rattle.std.specs.Prelude.{◌≡◌, ℕ, ◌<◌, List, [], ◌∷◌}
-use Rattle.std.specs.Coded.{×_prop, Unit-prop, le_prop}
-use Rattle.std.specs.List.{AllByRecursion-prop}
+use Rattle.std.specs.Prelude.{◌≡◌, ℕ, List}
 use Rattle.marks.specs.declared.set.MarkSet.{MarkSet}
 use Rattle.marks.specs.MarkSets.{marks_of}
 use Rattle.readings.specs.Books.{Book}
 use Rattle.readings.specs.Yields.{Full, Guarded}
-use Rattle.lines.specs.Lawful.{Ascends, LawfulFare, AllLawful}
+use Rattle.lines.specs.Lawful.{LawfulFare, AllLawful}
 use Rattle.lines.specs.declared.fare.FareLine.{FareLine}
 use Rattle.settling.specs.Growth.{rules_of}
 
@@ -17,11 +15,6 @@ Unlike B s = s.width ≡ B.width → ⊥
 -- at most 1,024 fare lines, each lawful for the width
 abbrev pub LawfulFares : ℕ → List FareLine → Type 0
 LawfulFares w lines = AllLawful (LawfulFare w) 1024 lines
-
--- a list ascends in one way only, so that a struct may keep that its lines are lawful
-pub Ascends-prop : (ms : List ℕ) → IsProp (Ascends ms)
-Ascends-prop [] = Unit-prop
-Ascends-prop (m ∷ ms) = ×_prop (AllByRecursion-prop (λ k. m < k) (λ k. le_prop) ms) (Ascends-prop ms)
 
 -- facts and fare lines that go with a book
 pub record GoesWith (B : Book) (lines : List FareLine) (facts : MarkSet) : Type 0 where

@@ -9,10 +9,10 @@ ghost use Rattle.settling.specs.Growth.{rules_of};
 use crate::trip::Trip;
 use crate::verdict::clashes;
 use books::book::TermBook;
-use books::width::check_set_width;
 use lines::fare::FareLine;
 use marks::refusal::Refusal;
 use marks::set::MarkSet;
+use marks::width::check_set_width;
 
 impl<B: TermBook> Trip<'_, B> {
     // The set must be its own full yield, and the book must not clash there.

@@ -2,14 +2,15 @@
 ghost use Rattle.std.specs.Prelude.{◌≡◌};
 ghost use Rattle.marks.specs.Refusals.{Refuses, Gives, Test};
 ghost use Rattle.std.proofs.Props.{props};
-ghost use Rattle.settling.specs.Calls.{Unlike, LawfulFares, Ascends-prop, GoesWith};
+ghost use Rattle.lines.specs.Props.{Ascends-prop};
+ghost use Rattle.settling.specs.Calls.{Unlike, LawfulFares, GoesWith};
 
 use books::book::TermBook;
-use books::width::check_set_width;
 use lines::check::check_records;
 use lines::fare::{FareLine, MOST_FARES};
 use marks::refusal::Refusal;
 use marks::set::MarkSet;
+use marks::width::check_set_width;
 
 // The fare lines, book and facts of one trip: one width, and lawful lines.
 #[derive(Drop)]

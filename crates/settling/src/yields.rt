@@ -6,11 +6,11 @@ ghost use Rattle.settling.specs.Growth.{DeniesHeads};
 
 use crate::trip::Trip;
 use books::book::TermBook;
-use books::width::check_set_width;
 use lines::admission::Admission;
 use lines::fare::FareLine;
 use marks::refusal::Refusal;
 use marks::set::MarkSet;
+use marks::width::check_set_width;
 
 impl<B: TermBook> Trip<'_, B> {
     // The full yield: only exceptions are looked up in the given set.

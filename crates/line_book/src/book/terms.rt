@@ -12,12 +12,11 @@ use crate::grow::grow;
 use books::book::TermBook;
 use books::table::Table;
 use books::whole::give_all;
-use books::width::check_set_width;
 use lines::check::check_records;
 use lines::term::{MOST_TERMS, TermLine};
 use marks::refusal::Refusal;
 use marks::set::MarkSet;
-use marks::width::check_width;
+use marks::width::{check_set_width, check_width};
 
 impl LineBook {
     // A book without lines: it adds nothing and never clashes.

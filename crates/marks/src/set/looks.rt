@@ -32,8 +32,7 @@ impl MarkSet {
         count_held(&self.words)
     }
 
-    // How the marks below the width are shared out, by the ones of the two sets' words combined. By index, since the third word of
-    // each turn is made from it, and since each word is looked at once.
+    // How the marks below the width are shared out, by the ones of the two sets' words combined.
     pub(super) fn count_overlap(&self, other: &MarkSet) -> Overlap
         requires { other.now.width ≡ self.now.width }
         ensures { Overlaps self.now.width (below self.now.width) (marks_of self.now) (marks_of other.now) result }
@@ -44,6 +43,7 @@ impl MarkSet {
             first: 0,
             second: 0,
         };
+        // by index: it makes the third word, and each word is looked at once
         for i in 0..8 {
             let word = overlap_word(self.words[i], other.words[i], word_below(self.width, i));
             total.both += word.both;

@@ -12,25 +12,16 @@ use super::words::{
 };
 use crate::overlap::Overlap;
 use crate::refusal::Refusal;
-use crate::width::check_width;
+use crate::width::{check_set_width, check_width};
 
 impl MarkSet {
-    fn same_width(&self, other: &MarkSet) -> Result<(), Refusal>
-        ensures { Test (self.now.width ≢ other.now.width) (Refuses result 7) (Gives result (λ _. self.now.width ≡ other.now.width)) }
-    {
-        if self.width != other.width {
-            return Err(Refusal::Width);
-        }
-        Ok(())
-    }
-
     fn join<F: Fn(u64, u64) -> u64>(&mut self, other: &MarkSet, op: F) -> Result<(), Refusal>
         ghost by: { BitOp }
         requires callable { F.IsAlwaysCallable op }
         requires computes { Computes (F.post op) by.word }
         ensures { Test (self.old.width ≢ other.now.width) (Refuses result 7 × Unchanged self.old self.new) (Gives result (λ _. IsSet self.new self.old.width (joined by.on (marks_of self.old) (marks_of other.now)))) }
     {
-        self.same_width(other)?;
+        check_set_width(other, self.width)?;
         self.words = join_words(&self.words, &other.words, op);
         Ok(())
     }
@@ -131,7 +122,7 @@ impl MarkSet {
     pub fn is_subset(&self, other: &MarkSet) -> Result<bool, Refusal>
         ensures { Test (self.now.width ≢ other.now.width) (Refuses result 7) (Gives result (λ b. Decides b (marks_of self.now ⊆ marks_of other.now))) }
     {
-        self.same_width(other)?;
+        check_set_width(other, self.width)?;
         Ok(words_within(&self.words, &other.words))
     }
 
@@ -139,7 +130,7 @@ impl MarkSet {
     pub fn same_marks(&self, other: &MarkSet) -> Result<bool, Refusal>
         ensures { Test (self.now.width ≢ other.now.width) (Refuses result 7) (Gives result (λ b. Decides b (marks_of self.now ≡ marks_of other.now))) }
     {
-        self.same_width(other)?;
+        check_set_width(other, self.width)?;
         Ok(words_same(&self.words, &other.words))
     }
 
@@ -162,7 +153,7 @@ impl MarkSet {
     pub fn overlap(&self, other: &MarkSet) -> Result<Overlap, Refusal>
         ensures { Test (self.now.width ≢ other.now.width) (Refuses result 7) (Gives result (Overlaps self.now.width (below self.now.width) (marks_of self.now) (marks_of other.now))) }
     {
-        self.same_width(other)?;
+        check_set_width(other, self.width)?;
         Ok(self.count_overlap(other))
     }
 }

@@ -14,6 +14,7 @@ use books::book::TermBook;
 use lines::fare::FareLine;
 use marks::refusal::Refusal;
 use marks::set::MarkSet;
+use marks::width::check_set_width;
 use readings::reading::Reading;
 use settling::sound::is_sound;
 
@@ -67,9 +68,7 @@ impl Sheet {
     pub fn alike(&self, other: &Sheet) -> Result<bool, Refusal>
         ensures { Test (self.now.facts.width ≢ other.now.facts.width) (Refuses result 7) (Test ((the_state self.now.state).unsettled ⊎ (the_state other.now.state).unsettled) (Refuses result 12) (Gives result (λ b. Decides b (Agree self.now other.now)))) }
     {
-        if self.facts.width() != other.facts.width() {
-            return Err(Refusal::Width);
-        }
+        check_set_width(&other.facts, self.facts.width())?;
         match (&self.state, &other.state) {
             (State::Settled(one), State::Settled(two)) => same_answers(one, two),
             _ => Err(Refusal::NotSettled),

@@ -10,9 +10,9 @@ use super::{MOST_WORLDS, WorldBook};
 use crate::worlds::{all_of_width, common_marks};
 use books::book::TermBook;
 use books::table::Table;
-use books::width::check_set_width;
 use marks::refusal::Refusal;
 use marks::set::MarkSet;
+use marks::width::check_set_width;
 
 impl WorldBook {
     // A book without worlds: it clashes at every set.

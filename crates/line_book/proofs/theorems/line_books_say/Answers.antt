@@ -11,7 +11,7 @@ pub returns : goal.returns
 returns c =
     record {
       says = λ w lines law S s.
-          let low = heads_below w lines ∣ law ∣₁ in
+          let low = heads_below w lines law in
           let X = grown w lines S in
           record {
             grows = grown_is w lines low S s;
@@ -20,7 +20,7 @@ returns c =
             all = all_where_yes (some_stands (denials lines) X) w X;
             grown_else = all_where_not (some_stands (denials lines) X) w X;
           };
-      lawful = λ w lines law. line_lawful w lines (heads_below w lines ∣ law ∣₁);
+      lawful = λ w lines law. line_lawful w lines (heads_below w lines law);
       quiet_unfilled = λ w S t. t;
       closure_unfilled = grown_none;
       means = λ b w lines is. ap₂ line_book is.width is.lines_are;
