@@ -19,12 +19,8 @@ fn book_of(width: u16, terms: &[TermLine]) -> LineBook
     requires lawful { AllLawful (LawfulTerm width) 512 terms.now }
     ensures { IsLineBook result width terms.now }
 {
-    let Ok(mut book) = LineBook::new(width) else {
-        unreachable()
-    };
-    let Ok(()) = book.fill(terms) else {
-        unreachable()
-    };
+    let mut book = LineBook::new(width).unwrap();
+    book.fill(terms).unwrap();
     book
 }
 
@@ -38,8 +34,5 @@ pub(crate) fn settle_facts(tables: &Tables, facts: &MarkSet) -> Judged
     let counts = tables.counts;
     let book = book_of(counts.width, &tables.terms[..counts.terms as usize]);
     let fares = &tables.fares[..counts.fares as usize];
-    let Ok(judged) = settle(fares, &book, facts, Method::First) else {
-        unreachable()
-    };
-    judged
+    settle(fares, &book, facts, Method::First).unwrap()
 }

@@ -32,7 +32,10 @@ pub(crate) fn read_inputs(
 {
     tables.load(file)?;
     let width = tables.counts.width;
-    let set = facts_of(width, facts).map_err(Refused::Facts)?;
+    let set = match facts_of(width, facts) {
+        Ok(set) => set,
+        Err(fault) => return Err(Refused::Facts(fault)),
+    };
     if room < width as usize {
         return Err(Refused::Output);
     }
