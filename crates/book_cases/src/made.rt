@@ -1,4 +1,4 @@
-// What the tests make: sets and records from a few marks.
+// What the tests make: lists and term lines from a few marks.
 use lines::list::MarkList;
 use lines::term::{Kind, TermLine};
 use marks::refusal::Refusal;

@@ -6,12 +6,10 @@ use std::alloc::Global;
 use tariff::cursor::Reader;
 use tariff::facts::{read_facts, write_facts};
 use tariff::writer::write_number;
+use texts::facts_string::LONGEST;
 
 // What output holds before it is written.
 pub(crate) const BLANK: u8 = 0xaa;
-
-// The longest facts string has a count of two bytes and 512 marks of at most two.
-const LONGEST: usize = 1026;
 
 pub(crate) fn number(heap: Global, low: &str, high: &str, hex: &str) -> Printed {
     let bytes = words::bytes(heap, hex)?;

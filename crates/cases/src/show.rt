@@ -1,4 +1,4 @@
-// What is printed: bytes, sets, lines, refusals, faults and answers in words.
+// What is printed: bytes, sets, lines, refusals and faults.
 use lines::fare::FareLine;
 use lines::term::{Kind, TermLine};
 use marks::refusal::Refusal;

@@ -1,4 +1,4 @@
-// What the tests make: lists, lines and sets from a few marks. Unused places hold 9999.
+// What the tests make: lists and lines from a few marks. Unused places hold 9999.
 use lines::fare::FareLine;
 use lines::list::MarkList;
 use lines::term::{Kind, TermLine};

@@ -1,4 +1,4 @@
-// What the tests make: the sample tariff, sets, and looks at what was answered.
+// What the tests make: the sample tariff, sheets, and looks at what was answered.
 use line_book::book::LineBook;
 use lines::fare::FareLine;
 use lines::list::MarkList;

@@ -37,10 +37,7 @@ impl Encode for u16 {
 
     fn put(&self, out: &mut [u8], place: usize) -> usize {
         // it has room, so it is not refused
-        let Ok(next) = write_number(out, place, *self) else {
-            unreachable()
-        };
-        next
+        write_number(out, place, *self).unwrap()
     }
 }
 

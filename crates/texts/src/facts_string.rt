@@ -6,7 +6,7 @@ use std::fmt;
 use tariff::facts::{read_facts, write_facts};
 
 // The longest facts string has a count of two bytes and 512 marks of at most two.
-const LONGEST: usize = 1026;
+pub const LONGEST: usize = 1026;
 
 // A facts string for a width: its marks and its bytes written back, or why it is refused.
 #[derive(Clone, Copy)]
