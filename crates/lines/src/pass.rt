@@ -18,7 +18,7 @@ pub struct Passed {
 fn fired<G, L: Line<G>>(line: &L, gate: &G, set: &MarkSet) -> bool
     ensures { result ≡ fires (L.Line.view gate.now line.now) (marks_of set.now) }
 {
-    line.admitted(gate) && line.stands(set)
+    line.stands(set) && line.admitted(gate)
 }
 
 // Brings in one line. Where the head is in the set already, there is no need to look at the conditions.

@@ -42,9 +42,8 @@ pub(super) fn words_below(width: u16) -> [u64; 8]
 pub(super) fn has_mark(words: &[u64; 8], m: u16) -> bool
     ensures { result ≡ held words.now m }
 {
-    words
-        .get((m / 64) as usize)
-        .is_some_and(|w| w >> (m % 64) & 1 == 1)
+    let i = m / 64;
+    i < 8 && words[i as usize] >> (m % 64) & 1 == 1
 }
 
 pub(super) fn put_mark(words: &mut [u64; 8], m: u16)

@@ -1,17 +1,14 @@
-use Rattle.std.proofs.Common.{rules, ◌≡◌, ℕ, ◌/◌, ◌%◌, ◌^◌, ◌<◌, ◌≤◌, false, eqb, ⊎_elim, get_or, sym, ap, ◌∙◌, arith}
-use Rattle.std.proofs.lemmas.Bool.{cases_lt}
-use lib.Bits.{bit_and, and_mask}
+use Rattle.std.proofs.Common.{ℕ, ◌/◌, ◌%◌, ◌^◌, eqb, get_or, sym, ap, ◌∙◌, arith}
+use Rattle.std.proofs.lemmas.Bool.{le-ltb}
+use lib.Bits.{and_mask}
 use Rattle.marks.specs.Words.{bit}
 use Rattle.marks.proofs.Words.{held_past}
 use Rattle.marks.proofs.set.words.has_mark.Goals as goal
 
-pub returns : goal.returns
+pub returns-then-i-lt8 : goal.returns-then-i-lt8
 unfolding bit
-returns c =
-    let ws = c.args.words.now in
-    let m = c.args.m in
-    let there : m / 64 < 8 → c.is_some_and.result ≡ eqb (bit_and (get_or ws (m / 64) 0 / 2 ^ (m % 64)) 1) 1 = search rules in
-    let past : 8 ≤ m / 64 → c.is_some_and.result ≡ false = search rules in
-    ⊎_elim (λ (h : m / 64 < 8). there h ∙ ap (λ (x : ℕ). eqb x 1) (and_mask (get_or ws (m / 64) 0 / 2 ^ (m % 64)) 1))
-    (λ (h : 8 ≤ m / 64). past h ∙ sym (held_past ws m (omega arith)))
-    (cases_lt (m / 64) 8)
+returns-then-i-lt8 c =
+    ap (λ (x : ℕ). eqb x 1) (and_mask (get_or c.args.words.now (c.args.m / 64) 0 / 2 ^ (c.args.m % 64)) 1)
+
+pub returns-else-i-lt8 : goal.returns-else-i-lt8
+returns-else-i-lt8 c = le-ltb (c.args.m / 64) 8 (omega arith) ∙ sym (held_past c.args.words.now c.args.m (omega arith))
