@@ -1,97 +1,67 @@
-// The program for fitters and tariff writers: it shows what the module makes of the bytes it is given.
+// The program for fitters and tariff writers: it reads, checks and copies tariffs, and settles trips under them.
 #![tactic(auto)]
 
+mod commands;
+mod failure;
+mod run;
 mod sample;
+mod script;
 mod settle;
+mod show;
+mod tariff_file;
 mod words;
 
-use anyhow::anyhow;
-use settle::{show_closed, show_settled};
-use std::{env, io};
-use texts::facts_string::FactsString;
-use texts::number::NumberText;
-use words::{hex_bytes, marks_of, width};
+use commands::perform;
+use failure::Failure;
+use run::{input_script, run_script};
+use std::env;
+use std::process::ExitCode;
+use tariff_file::Tariff;
 
-const HELP: &str = "\
-fare                              the sample: a facts string read, and its trip settled
-fare facts WIDTH HEX [WIDTH HEX]  reads each facts string for its width, prints its marks,
-                                  and writes it back
-fare numbers HEX [HEX]            reads the number at the front of each, and writes it back
-fare close MARK [MARK]            closes the set of these marks under the sample's terms
-fare settle MARK [MARK]           settles the trip with these facts under the sample tariff,
-                                  by both methods
-fare -                            performs the commands in its input, one to a line
-fare --help                       this text";
-
-fn main(rt: HostRuntime) -> anyhow::Result<()> {
-    run(&rt)
+fn main(rt: HostRuntime) -> ExitCode {
+    match by_words(&rt) {
+        Ok(()) => ExitCode::SUCCESS,
+        Err(failure) => {
+            let _ = eprintln!(rt; "fare: {failure}");
+            ExitCode::FAILURE
+        }
+    }
 }
 
-fn run(rt: &HostRuntime) -> anyhow::Result<()> {
+fn by_words(rt: &HostRuntime) -> Result<(), Failure> {
     let args: Vec<String> = env::args(rt)?.skip(1).collect(rt.alloc())?;
     let words: Vec<&str> = args.iter().map(|word| word.as_str()).collect(rt.alloc())?;
     match words.as_slice() {
-        [] => show_sample(rt),
-        ["-"] => performed(rt),
+        ["-"] => perform_lines(rt),
+        ["run", file] => run_input(rt, file),
         all => perform(rt, all),
     }
 }
 
-// Performs the commands in the input, one to a line.
-fn performed(rt: &HostRuntime) -> anyhow::Result<()> {
+// Performs the calls of the input.
+fn run_input(rt: &HostRuntime, file: &str) -> Result<(), Failure> {
+    let tariff = Tariff::load(rt, file)?;
+    let script = input_script(rt)?;
+    run_script(rt, &tariff, script.as_str())
+}
+
+// Performs the commands of the input, one to a line. What one of them is refused is said in its place.
+fn perform_lines(rt: &HostRuntime) -> Result<(), Failure> {
     for line in rt.lines(rt.alloc()) {
         let line = line?;
-        let words: Vec<&str> = line.as_str().split_whitespace().collect(rt.alloc())?;
-        perform(rt, words.as_slice())?;
+        let text = line.as_str().trim();
+        if !text.is_empty() && !text.starts_with('#') {
+            perform_line(rt, text)?;
+        }
     }
     Ok(())
 }
 
-fn perform(rt: &HostRuntime, words: &[&str]) -> anyhow::Result<()> {
-    match words {
-        [] => Ok(()),
-        ["facts", strings @ ..] => facts_strings(rt, strings),
-        ["numbers", strings @ ..] => number_strings(rt, strings),
-        ["close", marks @ ..] => Ok(show_closed(rt, &marks_of(rt.alloc(), marks)?)?),
-        ["settle", marks @ ..] => Ok(show_settled(rt, &marks_of(rt.alloc(), marks)?)?),
-        ["--help", ..] => Ok(rt.println(HELP)?),
-        _ => Err(anyhow!("no such command: fare --help lists them")),
-    }
-}
-
-// The clipped trip of the sample tariff: the count is at 255, and was read.
-fn show_sample(rt: &HostRuntime) -> anyhow::Result<()> {
-    show_facts(rt, sample::WIDTH, &[2, 0, 3])?;
-    show_closed(rt, &[0, 3])?;
-    show_settled(rt, &[0, 3])?;
-    rt.println("fare --help says how to go on")?;
-    Ok(())
-}
-
-fn show_facts(rt: &HostRuntime, width: u16, bytes: &[u8]) -> io::Result<()> {
-    let facts = FactsString { width, bytes };
-    println!(rt; "{facts}")
-}
-
-// Takes the words two by two: a width and a facts string.
-fn facts_strings(rt: &HostRuntime, words: &[&str]) -> anyhow::Result<()> {
-    let (pairs, rest) = words.as_chunks::<2>();
-    for [number, digits] in pairs {
-        let width = width(number)?;
-        show_facts(rt, width, &hex_bytes(rt.alloc(), digits)?)?;
-    }
-    let Some(number) = rest.first() else {
-        return Ok(());
-    };
-    width(number)?;
-    Err(anyhow!("a facts string must follow its width"))
-}
-
-fn number_strings(rt: &HostRuntime, words: &[&str]) -> anyhow::Result<()> {
-    for digits in words {
-        let bytes = hex_bytes(rt.alloc(), digits)?;
-        let number = NumberText(&bytes);
-        println!(rt; "{number}")?;
+fn perform_line(rt: &HostRuntime, line: &str) -> Result<(), Failure> {
+    println!(rt; "> {line}")?;
+    let words: Vec<&str> = line.split_whitespace().collect(rt.alloc())?;
+    if let Err(failure) = perform(rt, words.as_slice()) {
+        println!(rt; "{failure}")?;
     }
     Ok(())
 }

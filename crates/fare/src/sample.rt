@@ -1,53 +1,37 @@
-// The sample tariff, of width 5: 0 the count is at 255, 1 the distance stands, 2 the count is clipped, 3 the count was read,
-// 4 the odometer is wanted.
-use line_book::book::LineBook;
-use lines::fare::FareLine;
-use lines::list::MarkList;
-use lines::term::{Kind, TermLine};
-use marks::refusal::Refusal;
+// The sample tariff and its trip: the count was read, and then found at the end of its scale.
+use crate::failure::Failure;
+use crate::run::run_script;
+use crate::settle::show_counts;
+use crate::show::show_tariff;
+use crate::tariff_file::Tariff;
 
-pub(crate) const WIDTH: u16 = 5;
+// The bytes of examples/sample.tariff.
+pub(crate) static FILE: [u8; 21] = [
+    5, 2, 2, 1, 1, 3, 1, 2, 4, 1, 3, 1, 1, 1, 2, 1, 0, 2, 2, 1, 2,
+];
 
-// "1 if 3 unless 2" and "4 if 3 unless 1".
-pub(crate) fn fares() -> [FareLine; 2] {
-    [fare(1, 3, 2), fare(4, 3, 1)]
-}
+const MARKS: &str = "\
+mark 0: the pulse count is at 255, the end of its scale
+mark 1: the measured distance stands
+mark 2: the count is clipped
+mark 3: the count was read
+mark 4: the odometer is wanted
+";
 
-// "0 gives 2" and "1 with 2 is denied".
-pub(crate) fn terms() -> [TermLine; 2] {
-    let gives = TermLine {
-        kind: Kind::Gives,
-        head: 2,
-        conditions: one(0),
-    };
-    let denied = TermLine {
-        kind: Kind::Denies,
-        conditions: MarkList {
-            count: 2,
-            marks: [1, 2, 0, 0, 0, 0, 0, 0],
-        },
-        ..TermLine::default()
-    };
-    [gives, denied]
-}
+const TRIP: &str = "enter 3; settle 1; ask 1; enter 0; settle 1; ask 1; ask 4; enter 0; strike 9";
 
-pub(crate) fn book() -> Result<LineBook, Refusal> {
-    let mut book = LineBook::new(WIDTH)?;
-    book.fill(&terms())?;
-    Ok(book)
-}
+const GO_ON: &str = "\
+fare settle sample 0 3 settles this trip; fare --help lists all commands.
+For sample you may write the name of a tariff file.";
 
-fn fare(head: u16, condition: u16, exception: u16) -> FareLine {
-    FareLine {
-        head,
-        conditions: one(condition),
-        unless: one(exception),
-    }
-}
-
-fn one(mark: u16) -> MarkList {
-    MarkList {
-        count: 1,
-        marks: [mark, 0, 0, 0, 0, 0, 0, 0],
-    }
+pub(crate) fn show_sample(rt: &HostRuntime) -> Result<(), Failure> {
+    let tariff = Tariff::read(rt.alloc(), &FILE)?;
+    rt.println("The sample tariff")?;
+    rt.print(MARKS)?;
+    show_tariff(rt, &tariff)?;
+    rt.println("The airport cab's trip")?;
+    run_script(rt, &tariff, TRIP)?;
+    show_counts(rt, &tariff, &[0, 3])?;
+    rt.println(GO_ON)?;
+    Ok(())
 }

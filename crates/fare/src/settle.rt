@@ -1,19 +1,20 @@
-// The sample tariff at work: sets closed under its terms, and trips settled.
-use crate::sample;
+// Trips under a tariff: sets closed under its terms, and facts settled.
+use crate::failure::Failure;
+use crate::script::ReplyText;
+use crate::tariff_file::Tariff;
 use books::book::TermBook;
 use marks::refusal::Refusal;
 use marks::set::MarkSet;
 use readings::method::Method;
-use readings::reading::Reading;
-use settling::settle::{Judged, settle};
-use std::{fmt, io};
-use texts::listed::Braced;
-use texts::refused::RefusalText;
+use readings::verdict::Verdict;
+use sheet::reply::{Counts, Reply, Settlement};
+use sheet::sheet::Sheet;
+use std::fmt;
 use texts::trip::{Closed, Facts};
 
-fn close(marks: &[u16]) -> Result<Closed, Refusal> {
-    let book = sample::book()?;
-    let given = MarkSet::of(sample::WIDTH, marks)?;
+fn close(tariff: &Tariff, marks: &[u16]) -> Result<Closed, Refusal> {
+    let book = tariff.book()?;
+    let given = MarkSet::of(tariff.width(), marks)?;
     let mut closure = given;
     let clash = book.close(&mut closure)?;
     Ok(Closed {
@@ -23,100 +24,95 @@ fn close(marks: &[u16]) -> Result<Closed, Refusal> {
     })
 }
 
-pub(crate) fn show_closed(rt: &HostRuntime, marks: &[u16]) -> io::Result<()> {
-    show(rt, close(marks))
+pub(crate) fn show_closed(rt: &HostRuntime, tariff: &Tariff, marks: &[u16]) -> Result<(), Failure> {
+    let closed = close(tariff, marks)?;
+    println!(rt; "{closed}")?;
+    Ok(())
 }
 
-pub(crate) fn show_settled(rt: &HostRuntime, marks: &[u16]) -> io::Result<()> {
-    match MarkSet::of(sample::WIDTH, marks) {
-        Err(refusal) => show_refusal(rt, refusal),
-        Ok(set) => {
-            let facts = Facts(&set);
-            println!(rt; "{facts} under the sample tariff")?;
-            show(rt, by_method(&set, Method::First))?;
-            show(rt, by_method(&set, Method::Second))
-        }
-    }
-}
-
-// Prints what was found, or why there is nothing.
-fn show<T: fmt::Display + Copy>(rt: &HostRuntime, found: Result<T, Refusal>) -> io::Result<()> {
-    match found {
-        Ok(text) => println!(rt; "{text}"),
-        Err(refusal) => show_refusal(rt, refusal),
-    }
-}
-
-fn show_refusal(rt: &HostRuntime, refusal: Refusal) -> io::Result<()> {
-    let why = RefusalText(refusal);
-    println!(rt; "  {why}")
-}
-
-// A trip settled by one method: the verdict, T and U, and the marks that hold, are not, are open and are both.
+// A settled sheet, and what settling it answered.
 #[derive(Clone, Copy)]
-struct ByMethod {
-    method: Method,
-    judged: Judged,
-    answers: Answers,
+struct Trip {
+    sheet: Sheet,
+    found: Settlement,
 }
 
-#[derive(Clone, Copy)]
-struct Answers {
-    holds: MarkSet,
-    not: MarkSet,
-    open: MarkSet,
-    both: MarkSet,
-}
-
-fn by_method(facts: &MarkSet, method: Method) -> Result<ByMethod, Refusal> {
-    let judged = settle(&sample::fares(), &sample::book()?, facts, method)?;
-    let answers = answered(&judged.settled.reading)?;
-    Ok(ByMethod {
-        method,
-        judged,
-        answers,
-    })
-}
-
-fn answered(reading: &Reading) -> Result<Answers, Refusal> {
-    let Reading { lower, upper } = reading;
-    let mut holds = *lower;
-    holds.intersect_with(upper)?;
-    let mut not = MarkSet::full(lower.width())?;
-    not.subtract(lower)?;
-    not.subtract(upper)?;
-    let mut open = *upper;
-    open.subtract(lower)?;
-    let mut both = *lower;
-    both.subtract(upper)?;
-    Ok(Answers {
-        holds,
-        not,
-        open,
-        both,
-    })
-}
-
-impl fmt::Display for ByMethod {
-    fn fmt<W: fmt::Write>(&self, f: &mut fmt::Formatter<W>) -> fmt::Result {
-        let number = self.method.number();
-        let verdict = self.judged.verdict;
-        let rounds = self.judged.settled.rounds;
-        let lower = Braced(&self.judged.settled.reading.lower);
-        let upper = Braced(&self.judged.settled.reading.upper);
-        let answers = self.answers;
-        writeln!(f, "  method {number}: {verdict} after {rounds} rounds")?;
-        writeln!(f, "    T {lower}, U {upper}")?;
-        write!(f, "    {answers}")
+fn settle_trip(tariff: &Tariff, marks: &[u16], method: Method) -> Result<Trip, Refusal> {
+    let book = tariff.book()?;
+    let mut sheet = Sheet::new(tariff.width())?;
+    for m in marks {
+        sheet.enter(*m)?;
     }
+    let found = sheet.settle(tariff.fares.as_slice(), &book, method)?;
+    Ok(Trip { sheet, found })
 }
 
-impl fmt::Display for Answers {
+// How many marks have each answer.
+#[derive(Clone, Copy)]
+struct CountsText(Counts);
+
+impl fmt::Display for CountsText {
     fn fmt<W: fmt::Write>(&self, f: &mut fmt::Formatter<W>) -> fmt::Result {
-        let holds = Braced(&self.holds);
-        let not = Braced(&self.not);
-        let open = Braced(&self.open);
-        let both = Braced(&self.both);
+        let Counts {
+            holds,
+            not,
+            open,
+            both,
+        } = self.0;
         write!(f, "holds {holds}, not {not}, open {open}, both {both}")
+    }
+}
+
+pub(crate) fn show_counts(rt: &HostRuntime, tariff: &Tariff, marks: &[u16]) -> Result<(), Failure> {
+    let facts = MarkSet::of(tariff.width(), marks)?;
+    let trip = settle_trip(tariff, marks, Method::First)?;
+    let given = Facts(&facts);
+    let counts = CountsText(trip.sheet.counts()?);
+    println!(rt; "counts with {given}: {counts}")?;
+    Ok(())
+}
+
+pub(crate) fn show_settled(
+    rt: &HostRuntime,
+    tariff: &Tariff,
+    marks: &[u16],
+    method: Method,
+) -> Result<(), Failure> {
+    let facts = MarkSet::of(tariff.width(), marks)?;
+    let trip = settle_trip(tariff, marks, method)?;
+    let given = Facts(&facts);
+    let number = method.number();
+    println!(rt; "{given}, by method {number}")?;
+    show_answers(rt, tariff.width(), &trip.sheet)?;
+    let counts = CountsText(trip.sheet.counts()?);
+    println!(rt; "  counts: {counts}")?;
+    let reply = ReplyText(Ok(Reply::Settled(trip.found)));
+    let meaning = meaning(trip.found.verdict);
+    println!(rt; "  {reply}: {meaning}")?;
+    Ok(())
+}
+
+// A table of all marks and their answers.
+fn show_answers(rt: &HostRuntime, width: u16, sheet: &Sheet) -> Result<(), Failure> {
+    println!(rt; "  mark  answer")?;
+    for m in 0..width {
+        let answer = sheet.ask(m)?;
+        println!(rt; "  {m:>4}  {answer}")?;
+    }
+    Ok(())
+}
+
+// What a verdict means. Only broken says whether there is a sound reading.
+fn meaning(verdict: Verdict) -> &'static str {
+    match verdict {
+        Verdict::Clear => {
+            "no mark is both, and the terms hold back no line that would add a mark; \
+             this does not promise a sound reading"
+        }
+        Verdict::Suspect => {
+            "the terms hold back a line that would add a mark; \
+             this does not rule a sound reading out"
+        }
+        Verdict::Broken => "there is no sound reading",
     }
 }

@@ -1,30 +1,26 @@
-// The words of a command: widths, marks and bytes.
-use anyhow::anyhow;
-use hex::FromHexError;
-use std::alloc::{AllocError, Global};
+// The words of a command: marks, widths, methods and bytes.
+use crate::failure::Failure;
+use readings::method::Method;
+use std::alloc::Global;
 
-pub(crate) fn width(word: &str) -> anyhow::Result<u16> {
-    word.parse::<u16>()
-        .map_err(|_| anyhow!("a width is a number up to 65,535"))
-}
-
-fn mark(word: &str) -> anyhow::Result<u16> {
-    word.parse::<u16>()
-        .map_err(|_| anyhow!("a mark is a number up to 65,535"))
-}
-
-pub(crate) fn marks_of(heap: Global, words: &[&str]) -> anyhow::Result<Vec<u16>> {
+pub(crate) fn marks_of(heap: Global, words: &[&str]) -> Result<Vec<u16>, Failure> {
     words
         .iter()
-        .map(|word| -> anyhow::Result<u16> { mark(word) })
+        .map(|word| -> Result<u16, Failure> { number(word) })
         .try_collect(heap)
 }
 
+pub(crate) fn number(word: &str) -> Result<u16, Failure> {
+    word.parse::<u16>()
+        .map_err(|_| "a mark or a width is a number up to 65,535".into())
+}
+
+pub(crate) fn method(word: &str) -> Result<Method, Failure> {
+    Method::try_from(number(word)?).map_err(|_| "the methods are 1 and 2".into())
+}
+
 // The bytes that a text spells, two hexadecimal digits each; spaces between digits are passed over.
-pub(crate) fn hex_bytes(heap: Global, text: &str) -> anyhow::Result<Vec<u8>> {
+pub(crate) fn hex_bytes(heap: Global, text: &str) -> Result<Vec<u8>, Failure> {
     let digits: Vec<u8> = text.bytes().filter(|b| *b != b' ').collect(heap)?;
-    hex::decode(heap, digits.as_slice()).map_err(|error| match error {
-        FromHexError::OutOfMemory => AllocError.into(),
-        _ => anyhow!("a byte is two hexadecimal digits"),
-    })
+    Ok(hex::decode(heap, digits.as_slice())?)
 }

@@ -14,7 +14,7 @@ pub(crate) fn run_script(rt: &HostRuntime, tariff: &Tariff, script: &str) -> Res
     let mut replies = vec![in rt.alloc(); Ok(Reply::Done); calls.len()]?;
     let book = tariff.book()?;
     perform_all(
-        tariff.width,
+        tariff.width(),
         tariff.fares.as_slice(),
         &book,
         calls.as_slice(),

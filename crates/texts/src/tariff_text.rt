@@ -1,8 +1,23 @@
-// Fare lines and term lines as text: 1 if 3 unless 2, 0 gives 2, 1 with 2 is denied.
+// What a tariff file opens with, and its lines, as text: 1 if 3 unless 2, 0 gives 2, 1 with 2 is denied.
+use crate::listed::Joined;
+use crate::many::Many;
 use lines::fare::FareLine;
 use lines::term::{Kind, TermLine};
 use std::fmt;
-use texts::listed::Joined;
+use tariff_format::counts::Counts;
+
+// What a file opens with: width 5, 2 fare lines, 2 term lines.
+#[derive(Clone, Copy)]
+pub struct Opening(pub Counts);
+
+impl fmt::Display for Opening {
+    fn fmt<W: fmt::Write>(&self, f: &mut fmt::Formatter<W>) -> fmt::Result {
+        let width = self.0.width;
+        let fares = Many(self.0.fares as usize, "fare line");
+        let terms = Many(self.0.terms as usize, "term line");
+        write!(f, "width {width}, {fares}, {terms}")
+    }
+}
 
 // A word and the marks of a list behind it; nothing where the list is empty.
 #[derive(Clone, Copy)]
@@ -23,7 +38,7 @@ impl fmt::Display for Part<'_> {
 }
 
 #[derive(Clone, Copy)]
-pub(crate) struct FareText<'a>(pub(crate) &'a FareLine);
+pub struct FareText<'a>(pub &'a FareLine);
 
 impl fmt::Display for FareText<'_> {
     fn fmt<W: fmt::Write>(&self, f: &mut fmt::Formatter<W>) -> fmt::Result {
@@ -41,7 +56,7 @@ impl fmt::Display for FareText<'_> {
 }
 
 #[derive(Clone, Copy)]
-pub(crate) struct TermText<'a>(pub(crate) &'a TermLine);
+pub struct TermText<'a>(pub &'a TermLine);
 
 impl fmt::Display for TermText<'_> {
     fn fmt<W: fmt::Write>(&self, f: &mut fmt::Formatter<W>) -> fmt::Result {

@@ -1,6 +1,5 @@
 // Scripts: calls on a sheet, one to a line, and their replies in words.
 use crate::failure::Failure;
-use crate::text::Many;
 use anyhow::anyhow;
 use marks::refusal::Refusal;
 use readings::method::Method;
@@ -8,6 +7,7 @@ use sheet::call::Call;
 use sheet::reply::Reply;
 use std::alloc::Global;
 use std::fmt;
+use texts::many::Many;
 use texts::refused::RefusalText;
 
 // A call as it stands in a script: enter 3, settle 1.
@@ -58,8 +58,10 @@ pub(crate) fn calls_of(heap: Global, script: &str) -> Result<Vec<Call>, Failure>
         .try_collect(heap)
 }
 
+const CALLS: &str = "the calls are enter 3, strike 3, settle 1, settle 2, ask 3";
+
 fn call_of(text: &str) -> Result<Call, Failure> {
-    parsed(text).ok_or_else(|| anyhow!("no such call: {text}").into())
+    parsed(text).ok_or_else(|| anyhow!("no such call: {text} ({CALLS})").into())
 }
 
 fn parsed(text: &str) -> Option<Call> {

@@ -3,7 +3,7 @@ use std::fmt;
 
 // So many of a thing: 1 round, 3 rounds.
 #[derive(Clone, Copy)]
-pub(crate) struct Many(pub(crate) usize, pub(crate) &'static str);
+pub struct Many(pub usize, pub &'static str);
 
 impl fmt::Display for Many {
     fn fmt<W: fmt::Write>(&self, f: &mut fmt::Formatter<W>) -> fmt::Result {

@@ -1,59 +1,21 @@
 // Tariff files: shown, checked and copied.
 use crate::failure::{Failure, cannot};
-use crate::line_text::{FareText, TermText};
 use crate::tariff_file::{Tariff, bytes_of};
-use crate::text::Many;
 use lines::fare::FareLine;
 use lines::term::TermLine;
 use std::alloc::Global;
-use std::{fmt, fs, io};
-use tariff_format::counts::Counts;
+use std::{fs, io};
 use tariff_reader::read::check_tariff;
 use tariff_writer::file::{tariff_size, write_tariff};
-
-// What a file opens with: width 5, 2 fare lines, 2 term lines.
-#[derive(Clone, Copy)]
-struct Opening {
-    width: u16,
-    fares: usize,
-    terms: usize,
-}
-
-impl fmt::Display for Opening {
-    fn fmt<W: fmt::Write>(&self, f: &mut fmt::Formatter<W>) -> fmt::Result {
-        let width = self.width;
-        let fares = Many(self.fares, "fare line");
-        let terms = Many(self.terms, "term line");
-        write!(f, "width {width}, {fares}, {terms}")
-    }
-}
-
-impl From<&Tariff> for Opening {
-    fn from(tariff: &Tariff) -> Opening {
-        Opening {
-            width: tariff.width,
-            fares: tariff.fares.len(),
-            terms: tariff.terms.len(),
-        }
-    }
-}
-
-impl From<Counts> for Opening {
-    fn from(counts: Counts) -> Opening {
-        Opening {
-            width: counts.width,
-            fares: counts.fares as usize,
-            terms: counts.terms as usize,
-        }
-    }
-}
+use texts::many::Many;
+use texts::tariff_text::{FareText, Opening, TermText};
 
 pub(crate) fn show_file(rt: &HostRuntime, name: &str) -> Result<(), Failure> {
     Ok(show_tariff(rt, &Tariff::load(rt, name)?)?)
 }
 
 pub(crate) fn show_tariff(rt: &HostRuntime, tariff: &Tariff) -> io::Result<()> {
-    let opening = Opening::from(tariff);
+    let opening = Opening(tariff.counts);
     println!(rt; "{opening}")?;
     show_fares(rt, tariff.fares.as_slice())?;
     show_terms(rt, tariff.terms.as_slice())
@@ -77,7 +39,7 @@ fn show_terms(rt: &HostRuntime, lines: &[TermLine]) -> io::Result<()> {
 
 pub(crate) fn check_file(rt: &HostRuntime, name: &str) -> Result<(), Failure> {
     let bytes = bytes_of(rt, name)?;
-    let opening = Opening::from(check_tariff(&bytes)?);
+    let opening = Opening(check_tariff(&bytes)?);
     let length = Many(bytes.len(), "byte");
     println!(rt; "lawful: {opening}, {length}")?;
     Ok(())
@@ -86,13 +48,13 @@ pub(crate) fn check_file(rt: &HostRuntime, name: &str) -> Result<(), Failure> {
 // The file of a tariff.
 fn file_of(heap: Global, tariff: &Tariff) -> Result<Vec<u8>, Failure> {
     let Tariff {
-        width,
+        counts,
         fares,
         terms,
     } = tariff;
-    let size = tariff_size(*width, fares, terms)?;
+    let size = tariff_size(counts.width, fares, terms)?;
     let mut out = vec![in heap; 0; size]?;
-    write_tariff(*width, fares, terms, out.as_mut_slice())?;
+    write_tariff(counts.width, fares, terms, out.as_mut_slice())?;
     Ok(out)
 }
 

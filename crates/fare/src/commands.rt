@@ -5,6 +5,7 @@ use crate::sample::show_sample;
 use crate::settle::{show_closed, show_settled};
 use crate::show::{check_file, copy_file, rewrite_file, show_file};
 use crate::tariff_file::Tariff;
+use crate::words::{hex_bytes, marks_of, method, number};
 use anyhow::anyhow;
 use readings::method::Method;
 use std::alloc::Global;
@@ -33,10 +34,10 @@ An example: fare settle sample 0 3";
 
 pub(crate) fn perform(rt: &HostRuntime, words: &[&str]) -> Result<(), Failure> {
     match words {
-        [] | ["sample", ..] => show_sample(rt),
+        [] | ["sample"] => show_sample(rt),
         ["facts", strings @ ..] => facts_strings(rt, strings),
         ["numbers", strings @ ..] => number_strings(rt, strings),
-        ["--help", ..] => Ok(rt.println(HELP)?),
+        ["--help", ..] | [_, "--help"] => Ok(rt.println(HELP)?),
         ["show", file] => show_file(rt, file),
         ["check", file] => check_file(rt, file),
         ["copy", file, to @ ..] => copy(rt, file, to),
@@ -98,7 +99,7 @@ fn facts_strings(rt: &HostRuntime, words: &[&str]) -> Result<(), Failure> {
     let (pairs, rest) = words.as_chunks::<2>();
     for [width, digits] in pairs {
         let width = number(width)?;
-        let bytes = hex::decode(rt.alloc(), *digits)?;
+        let bytes = hex_bytes(rt.alloc(), digits)?;
         let facts = FactsString {
             width,
             bytes: &bytes,
@@ -114,25 +115,9 @@ fn facts_strings(rt: &HostRuntime, words: &[&str]) -> Result<(), Failure> {
 
 fn number_strings(rt: &HostRuntime, words: &[&str]) -> Result<(), Failure> {
     for digits in words {
-        let bytes = hex::decode(rt.alloc(), *digits)?;
+        let bytes = hex_bytes(rt.alloc(), digits)?;
         let number = NumberText(&bytes);
         println!(rt; "{number}")?;
     }
     Ok(())
-}
-
-fn marks_of(heap: Global, words: &[&str]) -> Result<Vec<u16>, Failure> {
-    words
-        .iter()
-        .map(|word| -> Result<u16, Failure> { number(word) })
-        .try_collect(heap)
-}
-
-fn number(word: &str) -> Result<u16, Failure> {
-    word.parse::<u16>()
-        .map_err(|_| "a mark or a width is a number up to 65,535".into())
-}
-
-fn method(word: &str) -> Result<Method, Failure> {
-    Method::try_from(number(word)?).map_err(|_| "the methods are 1 and 2".into())
 }

@@ -1,18 +1,20 @@
 // Tariffs in memory, and where their bytes come from.
 use crate::failure::{Failure, cannot};
 use crate::sample;
+use crate::words::hex_bytes;
 use line_book::book::LineBook;
 use lines::fare::FareLine;
 use lines::term::TermLine;
 use marks::refusal::Refusal;
 use std::alloc::Global;
 use std::fs;
+use tariff_format::counts::Counts;
 use tariff_reader::read::{check_tariff, read_tariff};
 
-// The width and the lines of a lawful tariff file.
+// A lawful tariff file: what it opens with, and its lines.
 #[derive(Drop)]
 pub(crate) struct Tariff {
-    pub(crate) width: u16,
+    pub(crate) counts: Counts,
     pub(crate) fares: Vec<FareLine>,
     pub(crate) terms: Vec<TermLine>,
 }
@@ -24,7 +26,7 @@ impl Tariff {
         let mut terms = vec![in heap; TermLine::default(); counts.terms as usize]?;
         read_tariff(bytes, fares.as_mut_slice(), terms.as_mut_slice())?;
         Ok(Tariff {
-            width: counts.width,
+            counts,
             fares,
             terms,
         })
@@ -34,9 +36,13 @@ impl Tariff {
         Tariff::read(rt.alloc(), &bytes_of(rt, name)?)
     }
 
+    pub(crate) fn width(&self) -> u16 {
+        self.counts.width
+    }
+
     // The line book on the term lines.
     pub(crate) fn book(&self) -> Result<LineBook, Refusal> {
-        let mut book = LineBook::new(self.width)?;
+        let mut book = LineBook::new(self.width())?;
         book.fill(self.terms.as_slice())?;
         Ok(book)
     }
@@ -48,7 +54,7 @@ pub(crate) fn bytes_of(rt: &HostRuntime, name: &str) -> Result<Vec<u8>, Failure>
         return Ok(Vec::from_slice(rt.alloc(), &sample::FILE)?);
     }
     match name.strip_prefix("hex:") {
-        Some(digits) => Ok(hex::decode(rt.alloc(), digits)?),
+        Some(digits) => hex_bytes(rt.alloc(), digits),
         None => fs::read(rt, name).map_err(|error| cannot("read", name, error)),
     }
 }
