@@ -10,6 +10,14 @@ use Rattle.tariff.specs.Lists.{marks_at, Ascending, least_behind}
 use Rattle.tariff.proofs.Answering.{right_answer, only_answer}
 use Rattle.tariff.proofs.Runs.{mapped_same, mapped_twice}
 
+-- what lies behind xs
+pub behind : (bs : List ℕ) (p : ℕ) (xs rest : List ℕ) → drop p bs ≡ xs ++ rest → drop (p + length xs) bs ≡ rest
+behind bs p xs rest h = sym (drop-drop (length xs) p bs) ∙ ap (drop (length xs)) h ∙ drop_at xs rest (length xs) refl
+
+-- and behind a number that ends at q
+pub behind_number : (bs : List ℕ) (p n q : ℕ) (rest : List ℕ) → drop p bs ≡ encode n ++ rest → q ≡ p + length (encode n) → drop q bs ≡ rest
+behind_number bs p n q rest h e = ap (λ i. drop i bs) e ∙ behind bs p (encode n) rest h
+
 module _ (w : ℕ) (bs : List ℕ) where
   -- n marks that were read from p on, and the place behind them
   pub record MarksAre (n least p : ℕ) (ms : List ℕ) (q : ℕ) : Type 0 where
@@ -32,10 +40,6 @@ module _ (w : ℕ) (bs : List ℕ) where
   MarksAnswer n least p (Ok x) = MarksAre n least p x.0 x.1
   MarksAnswer n least p (Err f) = MarksFail n least p f
 
-  -- what lies behind the number at p
-  pub behind : (p n q : ℕ) (rest : List ℕ) → drop p bs ≡ encode n ++ rest → q ≡ p + length (encode n) → drop q bs ≡ rest
-  behind p n q rest h e = ap (λ i. drop i bs) e ∙ sym (drop-drop (length (encode n)) p bs) ∙ ap (drop (length (encode n))) h ∙ drop_at (encode n) rest (length (encode n)) refl
-
   module _ (some : 1 ≤ w) (bytes : Bytes bs) where
     by_mark : (n least p : ℕ) (r : Result (ℕ × ℕ) NumberFault) → NumberAnswer 0 (w - 1) least bs p r → ((m q : ℕ) → MarksAnswer n (m + 1) q (marks_at w bs n (m + 1) q)) → MarksAnswer (suc n) least p (and_then r (λ m q. mapped (λ ms. m ∷ ms) (marks_at w bs n (m + 1) q)))
     by_mark n least p (Err f) h go = record {
@@ -49,7 +53,7 @@ module _ (w : ℕ) (bs : List ℕ) where
     by_mark n least p (Ok x) h go = by_rest (marks_at w bs n (x.0 + 1) x.1) (go x.0 x.1)
       where
         here : drop p bs ≡ encode x.0 ++ drop x.1 bs
-        here = h.stands.front ∙ ap (λ l. encode x.0 ++ l) (sym (behind p x.0 x.1 h.stands.rest h.stands.front h.behind))
+        here = h.stands.front ∙ ap (λ l. encode x.0 ++ l) (sym (behind_number bs p x.0 x.1 h.stands.rest h.stands.front h.behind))
 
         low : x.0 < w
         low = let l = h.limit.1 in omega arith
@@ -93,7 +97,7 @@ module _ (w : ℕ) (bs : List ℕ) where
         let q : ℕ = p + length (encode m) in
         let one : number_at 0 (w - 1) least bs p ≡ Ok (m, q) =
         only_answer 0 (w - 1) least bs p (Ok (m, q)) (record { stands = record { small = omega arith; rest = flat_map encode ms ++ rest; front = split }; limit = (omega arith, omega arith); ascent = asc.0; behind = refl }) in
-        let more = marks_read ms n (m + 1) q rest (omega arith) asc.2 (behind p m q (flat_map encode ms ++ rest) split refl) in
+        let more = marks_read ms n (m + 1) q rest (omega arith) asc.2 (behind bs p (encode m) (flat_map encode ms ++ rest) split) in
         let left : n - length ms ≡ suc n - suc (length ms) = omega arith in
         let far : q + length (flat_map encode ms) ≡ p + length (flat_map encode (m ∷ ms)) = omega (arith, length-append (encode m) (flat_map encode ms)) in
         ap (λ r. and_then r (λ x e. mapped (λ l. x ∷ l) (marks_at w bs n (x + 1) e))) one

@@ -13,7 +13,7 @@ use Rattle.tariff.specs.Facts.{members, facts_bytes, adding, ended, facts_at, Be
 use Rattle.tariff.specs.Lists.{marks_at, Ascending, least_behind}
 use Rattle.tariff.proofs.Tests.{cond_lt}
 use Rattle.tariff.proofs.Answering.{right_answer, only_answer}
-use Rattle.tariff.proofs.Listing.{MarksAre, MarksAnswer, behind, right_marks, marks_read}
+use Rattle.tariff.proofs.Listing.{MarksAre, MarksAnswer, behind_number, right_marks, marks_read}
 use Rattle.tariff.proofs.Members.{length_members, members_ascending, adding_inside, none_inside, adding_members, members_adding}
 
 module _ (w : ℕ) (bs : List ℕ) where
@@ -21,7 +21,7 @@ module _ (w : ℕ) (bs : List ℕ) where
     -- the facts behind a count k that ends at p
     module _ (k p : ℕ) (h : NumberIs 0 512 0 bs 0 k p) where
       after_count : bs ≡ encode k ++ drop p bs
-      after_count = h.stands.front ∙ ap (λ l. encode k ++ l) (sym (behind w bs 0 k p h.stands.rest h.stands.front h.behind))
+      after_count = h.stands.front ∙ ap (λ l. encode k ++ l) (sym (behind_number bs 0 k p h.stands.rest h.stands.front h.behind))
 
       begun : (ms rest : List ℕ) (q : ℕ) → length ms ≤ k → Ascending w 0 ms → drop p bs ≡ flat_map encode ms ++ rest → q ≡ p + length (flat_map encode ms) → Begun w bs k ms q
       begun ms rest q few asc front place = record {
@@ -69,7 +69,7 @@ module _ (w : ℕ) (bs : List ℕ) where
         let split : bs ≡ encode k ++ (flat_map encode ms ++ b.rest) = b.front ∙ append_assoc (encode k) (flat_map encode ms) b.rest in
         let count : number_at 0 512 0 bs 0 ≡ Ok (k, p) =
         only_answer 0 512 0 bs 0 (Ok (k, p)) (record { stands = record { small = omega arith; rest = flat_map encode ms ++ b.rest; front = split }; limit = (omega arith, c); ascent = omega arith; behind = omega arith }) in
-        let read = marks_read w bs small ms k 0 p b.rest b.some b.ascending (behind w bs 0 k p (flat_map encode ms ++ b.rest) split (omega arith)) in
+        let read = marks_read w bs small ms k 0 p b.rest b.some b.ascending (behind_number bs 0 k p (flat_map encode ms ++ b.rest) split (omega arith)) in
         let place : p + length (flat_map encode ms) ≡ q = omega (arith, b.place, length-append (encode k) (flat_map encode ms)) in
         ap (λ r. and_then r (λ n e. and_then (mapped (adding no_marks) (marks_at w bs n 0 e)) (ended bs))) count
         ∙ ap (λ r. and_then (mapped (adding no_marks) r) (ended bs)) (read ∙ ap (λ e. mapped (λ l. ms ++ l) (marks_at w bs (k - length ms) (least_behind 0 ms) e)) place)

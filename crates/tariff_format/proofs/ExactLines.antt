@@ -22,7 +22,8 @@ use Rattle.tariff_format.specs.Faults.{line_fault, in_line, as_lines}
 use Rattle.tariff_format.specs.Lines.{list_at, fare_at, kind_of, term_behind, term_at, lines_at}
 use Rattle.tariff_format.specs.Places.{Limits, from_to, a_mark, list_before, FarePlace, the_head, in_conditions, in_unless, fare_before, fare_limits, FareReached, TermPlace, its_kind, its_head, conditions_of, term_before, term_limits, TermReached}
 use Rattle.tariff_format.specs.Tidy.{TidyList, TidyFare, TidyTerm}
-use Rattle.tariff_format.proofs.Exact.{Stops, EitherStop, in_first, in_second, EachStop, LiftedStop, Exact, reworded_exact, mapped_exact, lifted_exact, chosen_exact, rows_exact}
+use Rattle.tariff_format.proofs.Exact.{Stops, EitherStop, in_first, in_second, LiftedStop, Exact, reworded_exact, mapped_exact, lifted_exact, chosen_exact}
+use Rattle.tariff_format.proofs.ExactRows.{EachStop, rows_exact}
 use Rattle.tariff_format.proofs.ExactLists.{as_is, Starts, AtPlace, list_stops, number_exact, list_exact}
 
 abbrev pub fare_stops : ℕ → Stops NumberFault

@@ -3,9 +3,7 @@ use Rattle.std.proofs.Common.{◌≡◌, ℕ, suc, ◌+◌, ◌-◌, ◌<◌, �
 use Rattle.std.specs.List.{flat_map}
 use Rattle.std.proofs.lemmas.List.{append-nil, take_at}
 use Rattle.lines.specs.declared.list.MarkList.{MarkList}
-use Rattle.lines.specs.Lawful.{Ascends, AllBelow}
 use Rattle.lines.specs.Records.{used}
-use Rattle.lines.proofs.Ascents as ascents
 use Rattle.tariff.specs.declared.fault.NumberFault.{NumberFault}
 use Rattle.tariff.specs.Faults.{Within, Fails, NumberAnswer}
 use Rattle.tariff.specs.Lists.{marks_at, Ascending, least_behind}
@@ -13,12 +11,14 @@ use Rattle.tariff.specs.Numbers.{Bytes, encode}
 use Rattle.tariff.specs.Readings.{and_then, mapped, fault, number_at}
 use Rattle.tariff.proofs.Answering.{right_answer, only_answer}
 use Rattle.tariff.proofs.Listing as listing
+use Rattle.tariff.proofs.Listing.{behind}
 use Rattle.tariff_format.specs.Answers.{FailsAt}
 use Rattle.tariff_format.specs.Encoding.{list_bytes}
 use Rattle.tariff_format.specs.Lines.{held, list_at}
 use Rattle.tariff_format.specs.Places.{Limits, from_to, ListPlace, the_count, mark_of, list_before, list_limits, ListReached}
 use Rattle.tariff_format.specs.Tidy.{TidyList}
-use Rattle.tariff_format.proofs.Exact.{Stops, EitherStop, in_first, in_second, behind, Says, Exact, reworded_exact, mapped_exact, chosen_exact}
+use Rattle.tariff_format.proofs.Ascents.{ascends_ascending, ascending_ascends}
+use Rattle.tariff_format.proofs.Exact.{Stops, EitherStop, in_first, in_second, Says, Exact, reworded_exact, mapped_exact, chosen_exact}
 
 -- a number's fault as it is
 abbrev pub as_is : NumberFault → NumberFault
@@ -49,17 +49,6 @@ record MarksStop (w k : ℕ) (before : List ℕ) (at : Limits) (up : NumberFault
   front : before ≡ flat_map encode marks
   within : at ≡ record { low = 0; high = w - 1; least = least_behind 0 marks }
   same : up ≡ as_is
-
-pub ascending_lawful : (w least : ℕ) (ms : List ℕ) → Ascending w least ms → ascents.Ascending w least ms
-ascending_lawful w least [] h = tt
-ascending_lawful w least (m ∷ ms) h = (h.0, h.1, ascending_lawful w (m + 1) ms h.2)
-
-lawful_from : (w least : ℕ) (ms : List ℕ) → ascents.Ascending w least ms → Ascending w least ms
-lawful_from w least [] h = tt
-lawful_from w least (m ∷ ms) h = (h.0, h.1, lawful_from w (m + 1) ms h.2)
-
-pub lawful_ascending : (w : ℕ) (ms : List ℕ) → Ascends ms → AllBelow w ms → Ascending w 0 ms
-lawful_ascending w ms a b = lawful_from w 0 ms (ascents.ascends_ascending w ms a b)
 
 -- the marks of a record that holds them
 pub used_held : (ms : List ℕ) → used (held ms) ≡ ms
@@ -162,11 +151,11 @@ module _ (bs : List ℕ) (bytes : Bytes bs) where
     to_parts : (l : MarkList) → TidyList w l → count_ok l.count × rest_ok l.count l
     to_parts l h =
         let count = ap (λ (m : MarkList). m.count) h.zeros in
-        (((omega arith, h.lawful.count), omega arith), ((count, lawful_ascending w (used l) h.lawful.ascends h.lawful.below), h.zeros))
+        (((omega arith, h.lawful.count), omega arith), ((count, ascends_ascending w (used l) h.lawful.ascends h.lawful.below), h.zeros))
 
     from_parts : (l : MarkList) → count_ok l.count × rest_ok l.count l → TidyList w l
     from_parts l h =
-        let lawful = ascents.ascending_ascends w 0 (used l) (ascending_lawful w 0 (used l) h.1.0.1) in
+        let lawful = ascending_ascends w 0 (used l) h.1.0.1 in
         record { lawful = record { count = h.0.0.1; ascends = lawful.0; below = lawful.1 }; zeros = h.1.1 }
 
     to_stop : (before : List ℕ) (at : Limits) (up : NumberFault → NumberFault) (place : ListPlace) → ListReached w place → before ≡ list_before place → at ≡ list_limits w place → up ≡ as_is → parts_stops before at up
