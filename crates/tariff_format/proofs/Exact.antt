@@ -4,7 +4,7 @@ use Rattle.std.proofs.Common.{◌≡◌, ℕ, ◌+◌, List, ◌++◌, length, d
 use Rattle.marks.specs.declared.refusal.Refusal.{Refusal}
 use Rattle.tariff.specs.declared.fault.NumberFault.{NumberFault}
 use Rattle.tariff.specs.Readings.{and_then, mapped, fault}
-use Rattle.tariff.proofs.Listing.{behind}
+use Rattle.tariff.proofs.Rows.{behind}
 use Rattle.tariff_format.specs.Answers.{FailsAt}
 use Rattle.tariff_format.specs.Places.{Limits}
 
@@ -24,11 +24,11 @@ pub record LiftedStop {E F : Type 0} (lift : E → F) (one : Stops E) (before : 
   pub stop : one before at below
 
 -- how far it is past xs and more
-pub far : (p q : ℕ) (xs more : List ℕ) → q ≡ p + length xs → q + length more ≡ p + length (xs ++ more)
+far : (p q : ℕ) (xs more : List ℕ) → q ≡ p + length xs → q + length more ≡ p + length (xs ++ more)
 far p q xs more e = omega (arith, e, length-append xs more)
 
 -- xs stands at p, and ys behind it
-pub joins : (bs : List ℕ) (p q : ℕ) (xs ys rest : List ℕ) → drop p bs ≡ xs ++ drop q bs → drop q bs ≡ ys ++ rest → drop p bs ≡ (xs ++ ys) ++ rest
+joins : (bs : List ℕ) (p q : ℕ) (xs ys rest : List ℕ) → drop p bs ≡ xs ++ drop q bs → drop q bs ≡ ys ++ rest → drop p bs ≡ (xs ++ ys) ++ rest
 joins bs p q xs ys rest one two = one ∙ ap (λ l. xs ++ l) two ∙ sym (append_assoc xs ys rest)
 
 -- what stands at p is xs and what follows it
@@ -56,7 +56,7 @@ module _ (bs : List ℕ) where
 
   module _ {E : Type 0} (stops stops' : Stops E) (e : E) where
     -- the same refusal among other places
-    pub among : (p : ℕ) (r : Refused stops p e) → stops' r.before r.at r.up → Refused stops' p e
+    among : (p : ℕ) (r : Refused stops p e) → stops' r.before r.at r.up → Refused stops' p e
     among p r s = record { before = r.before; at = r.at; up = r.up; why = r.why; rest = r.rest; stop = s; front = r.front; test = r.test; is = r.is }
 
     -- a refusal behind xs, seen from where xs starts

@@ -1,96 +1,85 @@
--- Lines, one behind the other, are read exactly where each of them is.
-use Rattle.std.proofs.Common.{◌≡◌, ℕ, zero, suc, ◌+◌, ◌-◌, ◌<◌, List, [], ◌∷◌, ◌++◌, length, drop, Ok, Err, Result, sym, refl, ap, ◌∙◌, subst, append_assoc, add-zero, arith}
+-- Things of one kind, one behind the other, are read exactly where each of them is.
+use Rattle.std.proofs.Common.{◌≡◌, ℕ, suc, ◌+◌, ◌-◌, ◌<◌, ◌≤◌, List, [], ◌∷◌, ◌++◌, length, drop, Ok, Err, Result, sym, refl, ap, ◌∙◌, add-zero, arith}
 use Rattle.std.specs.List.{flat_map, AllByRecursion}
 use Rattle.std.proofs.lemmas.List.{append-nil}
 use Rattle.tariff.specs.declared.fault.NumberFault.{NumberFault}
 use Rattle.tariff.specs.Readings.{and_then, mapped, many}
-use Rattle.tariff.proofs.Listing.{behind}
-use Rattle.tariff.proofs.Runs.{mapped_same, mapped_twice}
+use Rattle.tariff.proofs.Rows.{behind, AllSaid, OneSaid, all_said, all_read}
 use Rattle.tariff_format.specs.Places.{Limits}
-use Rattle.tariff_format.proofs.Exact.{Stops, far, joins, parted, Read, among, from_before, from_behind, Says, Exact}
+use Rattle.tariff_format.proofs.Exact.{Stops, parted, Refused, from_before, from_behind, Says, Exact}
 
--- the places of a reading, for each of n behind those before it
-pub record EachStop {A E : Type 0} (enc : A → List ℕ) (ok : A → Type 0) (one : ℕ → Stops E) (n i : ℕ) (before : List ℕ) (at : Limits) (up : NumberFault → E) : Type 0 where
+-- the places of a reading that goes by a state, for each of n behind those before it
+pub record EachStop {A E S : Type 0} (enc : A → List ℕ) (right : S → List A → Type 0) (state : S → List A → S) (one : S → Stops E) (n : ℕ) (s : S) (before : List ℕ) (at : Limits) (up : NumberFault → E) : Type 0 where
   pub done : List A
   pub more : List ℕ
-  pub lawful : AllByRecursion ok done
+  pub lawful : right s done
   pub few : length done < n
   pub split : before ≡ flat_map enc done ++ more
-  pub stop : one (i + length done) more at up
+  pub stop : one (state s done) more at up
 
--- lines, one behind the other, from the index i on
-module _ (bs : List ℕ) {A E : Type 0} (read : ℕ → ℕ → Result (A × ℕ) E) (enc : A → List ℕ) (ok : A → Type 0) (stops : ℕ → Stops E) (exact : (i : ℕ) → Exact bs (read i) enc ok (stops i)) where
-  abbrev rows : ℕ → ℕ → ℕ → Result (List A × ℕ) E
-  rows n i p = many read (λ _ j. j + 1) n i p
+module _ (bs : List ℕ) {A E S : Type 0} (read : S → ℕ → Result (A × ℕ) E) (next : A → S → S) (enc : A → List ℕ) (ok : S → A → Type 0) (stops : S → Stops E) (exact : (s : S) → Exact bs (read s) enc (ok s) (stops s)) where
+  module _ (right : S → List A → Type 0) (state : S → List A → S) (none : (s : S) → right s []) (more : (s : S) (x : A) (xs : List A) → ok s x → right (next x s) xs → right s (x ∷ xs)) (first : (s : S) (x : A) (xs : List A) → right s (x ∷ xs) → ok s x × right (next x s) xs) (start : (s : S) → state s [] ≡ s) (on : (s : S) (x : A) (xs : List A) → state (next x s) xs ≡ state s (x ∷ xs)) where
+    abbrev all_ok : ℕ → S → List A → Type 0
+    all_ok n s xs = right s xs × (length xs ≡ n)
 
-  abbrev rows_ok : ℕ → List A → Type 0
-  rows_ok n xs = AllByRecursion ok xs × (length xs ≡ n)
+    abbrev all_stops : ℕ → S → Stops E
+    all_stops = EachStop enc right state stops
 
-  by_rows : (n i p : ℕ) (x : A) (m : ℕ) → Read bs enc ok p x m → (r : Result (List A × ℕ) E) → Says bs (flat_map enc) (rows_ok n) (EachStop enc ok stops n (i + 1)) m r → Says bs (flat_map enc) (rows_ok (suc n)) (EachStop enc ok stops (suc n) i) p (mapped (λ xs. x ∷ xs) r)
-  by_rows n i p x m one (Ok y) two = record {
-    lawful = ((one.lawful, two.lawful.0), ap suc two.lawful.1);
-    place = two.place ∙ far p m (enc x) (flat_map enc y.0) one.place;
-    front = joins bs p m (enc x) (flat_map enc y.0) (drop y.1 bs) one.front two.front;
-  }
-  by_rows n i p x m one (Err e) two =
-      let s = two.stop in
-      let index : (i + 1) + length s.done ≡ i + suc (length s.done) = omega arith in
-      let fewer = s.few in
-      from_before bs (EachStop enc ok stops n (i + 1)) (EachStop enc ok stops (suc n) i) e p m (enc x) one.place one.front two (record {
-        done = x ∷ s.done;
-        more = s.more;
-        lawful = (one.lawful, s.lawful);
-        few = omega arith;
-        split = ap (λ l. enc x ++ l) s.split ∙ sym (append_assoc (enc x) (flat_map enc s.done) s.more);
-        stop = subst (λ j. stops j s.more two.at two.up) index s.stop;
-      })
+    -- one that is refused
+    abbrev OneFails : S → ℕ → E → Type 0
+    OneFails s p e = Refused bs (stops s) p e
 
-  by_row : (n i p : ℕ) (r : Result (A × ℕ) E) → Says bs enc ok (stops i) p r → ((q : ℕ) → Says bs (flat_map enc) (rows_ok n) (EachStop enc ok stops n (i + 1)) q (rows n (i + 1) q)) → Says bs (flat_map enc) (rows_ok (suc n)) (EachStop enc ok stops (suc n) i) p (and_then r (λ x q. mapped (λ xs. x ∷ xs) (rows n (i + 1) q)))
-  by_row n i p (Ok x) one go = by_rows n i p x.0 x.1 one (rows n (i + 1) x.1) (go x.1)
-  by_row n i p (Err e) one go =
-      among bs (stops i) (EachStop enc ok stops (suc n) i) e p one (record {
-        done = [];
-        more = one.before;
-        lawful = tt;
-        few = omega arith;
-        split = refl;
-        stop = subst (λ j. stops j one.before one.at one.up) (sym (add-zero i)) one.stop;
-      })
+    one_said : (s : S) (p : ℕ) (r : Result (A × ℕ) E) → Says bs enc (ok s) (stops s) p r → OneSaid bs enc ok OneFails s p r
+    one_said s p (Ok x) h = (h.lawful, h.front, h.place)
+    one_said s p (Err e) h = h
 
-  rows_say : (n i p : ℕ) → Says bs (flat_map enc) (rows_ok n) (EachStop enc ok stops n i) p (rows n i p)
-  rows_say zero i p = record { lawful = (tt, refl); place = sym (add-zero p); front = refl }
-  rows_say (suc n) i p = by_row n i p (read i p) ((exact i).says p) (λ q. rows_say n (i + 1) q)
+    all_say : (n : ℕ) (s : S) (p : ℕ) (r : Result (List A × ℕ) E) → AllSaid bs enc right state OneFails n s p r → Says bs (flat_map enc) (all_ok n s) (all_stops n s) p r
+    all_say n s p (Ok x) h = record { lawful = (h.lawful, h.many); place = h.place; front = h.front }
+    all_say n s p (Err e) h =
+        let done : List ℕ = flat_map enc h.done in
+        let one = h.refused in
+        from_before bs (stops (state s h.done)) (all_stops n s) e p (p + length done) done refl (h.front ∙ ap (λ l. done ++ l) (sym (behind bs p done h.rest h.front))) one (record {
+          done = h.done;
+          more = one.before;
+          lawful = h.lawful;
+          few = h.few;
+          split = refl;
+          stop = one.stop;
+        })
 
-  -- lines that stand in the bytes are read, and the rest decides
-  rows_read : (xs : List A) (d i p : ℕ) (rest : List ℕ) → AllByRecursion ok xs → drop p bs ≡ flat_map enc xs ++ rest → rows (length xs + d) i p ≡ mapped (λ l. xs ++ l) (rows d (i + length xs) (p + length (flat_map enc xs)))
-  rows_read [] d i p rest lawful h = sym (mapped_same (rows d (i + 0) (p + 0)) ∙ (λ k. rows d (add-zero i k) (add-zero p k)) ∙ ap (λ n. rows n i p) (omega arith))
-  rows_read (x ∷ xs) d i p rest lawful h =
-      let split : drop p bs ≡ enc x ++ (flat_map enc xs ++ rest) = h ∙ append_assoc (enc x) (flat_map enc xs) rest in
-      let q : ℕ = p + length (enc x) in
-      let one = (exact i).reads x p (flat_map enc xs ++ rest) lawful.0 split in
-      let more = rows_read xs d (i + 1) q rest lawful.1 (behind bs p (enc x) (flat_map enc xs ++ rest) split) in
-      let index : (i + 1) + length xs ≡ i + suc (length xs) = omega arith in
-      let count : suc (length xs) + d ≡ suc (length xs + d) = omega arith in
-      ap (λ n. rows n i p) count
-      ∙ ap (λ r. and_then r (λ a e. mapped (λ l. a ∷ l) (rows (length xs + d) (i + 1) e))) one
-      ∙ ap (mapped (λ l. x ∷ l)) more
-      ∙ mapped_twice (λ l. x ∷ l) (λ l. xs ++ l) (rows d ((i + 1) + length xs) (q + length (flat_map enc xs)))
-      ∙ (λ k. mapped (λ l. x ∷ (xs ++ l)) (rows d (index k) (far p q (enc x) (flat_map enc xs) refl k)))
+    one_read : (s : S) (p : ℕ) (x : A) (xs : List A) (rest : List ℕ) → right s (x ∷ xs) → drop p bs ≡ enc x ++ rest → (read s p ≡ Ok (x, p + length (enc x))) × right (next x s) xs
+    one_read s p x xs rest lawful h = let both = first s x xs lawful in ((exact s).reads x p rest both.0 h, both.1)
 
-  pub rows_exact : (n : ℕ) → Exact bs (rows n 0) (flat_map enc) (rows_ok n) (EachStop enc ok stops n 0)
-  rows_exact n = record {
-    says = rows_say n 0;
-    reads = λ xs p rest lawful h.
-        let count : length xs + 0 ≡ n = omega (arith, lawful.1) in
-        ap (λ k. rows k 0 p) (sym count) ∙ rows_read xs 0 0 p rest lawful.0 h ∙ ap (λ l. Ok (l, p + length (flat_map enc xs))) (append-nil xs);
-    refuses = λ p e r.
-        let s = r.stop in
-        let fewer = s.few in
-        let left : ℕ = n - (length s.done + 1) in
-        let count : length s.done + suc left ≡ n = omega arith in
-        let done : List ℕ = flat_map enc s.done in
-        let stopped = (exact (0 + length s.done)).refuses (p + length done) e (from_behind bs (EachStop enc ok stops n 0) (stops (0 + length s.done)) e p done s.more r s.split s.stop) in
-        ap (λ k. rows k 0 p) (sym count)
-        ∙ rows_read s.done (suc left) 0 p (s.more ++ r.rest) s.lawful (parted bs p done s.more r.rest r.before s.split r.front)
-        ∙ ap (λ z. mapped (λ l. s.done ++ l) (and_then z (λ a m. mapped (λ l. a ∷ l) (rows left ((0 + length s.done) + 1) m)))) stopped;
-  }
+    -- those that stand in the bytes are read
+    past : (xs : List A) (n : ℕ) (s : S) (p : ℕ) (rest : List ℕ) → length xs ≤ n → right s xs → drop p bs ≡ flat_map enc xs ++ rest → many read next n s p ≡ mapped (λ l. xs ++ l) (many read next (n - length xs) (state s xs) (p + length (flat_map enc xs)))
+    past = all_read bs read next enc right state start on one_read
+
+    pub each_exact : (n : ℕ) (s : S) → Exact bs (many read next n s) (flat_map enc) (λ xs. right s xs × (length xs ≡ n)) (EachStop enc right state stops n s)
+    each_exact n s = record {
+      says = λ p. all_say n s p (many read next n s p) (all_said bs read next enc right state start on ok OneFails none more (λ t q. one_said t q (read t q) ((exact t).says q)) n s p);
+      reads = λ xs p rest lawful h.
+          let q : ℕ = p + length (flat_map enc xs) in
+          let all : n - length xs ≡ 0 = omega (arith, lawful.1) in
+          past xs n s p rest (omega (arith, lawful.1)) lawful.0 h ∙ ap (λ k. mapped (λ l. xs ++ l) (many read next k (state s xs) q)) all ∙ ap (λ l. Ok (l, q)) (append-nil xs);
+      refuses = λ p e r.
+          let z = r.stop in
+          let fewer = z.few in
+          let left : ℕ = n - (length z.done + 1) in
+          let count : n - length z.done ≡ suc left = omega arith in
+          let done : List ℕ = flat_map enc z.done in
+          let stopped = (exact (state s z.done)).refuses (p + length done) e (from_behind bs (all_stops n s) (stops (state s z.done)) e p done z.more r z.split z.stop) in
+          past z.done n s p (z.more ++ r.rest) (omega arith) z.lawful (parted bs p done z.more r.rest r.before z.split r.front)
+          ∙ ap (λ k. mapped (λ l. z.done ++ l) (many read next k (state s z.done) (p + length done))) count
+          ∙ ap (λ y. mapped (λ l. z.done ++ l) (and_then y (λ a m. mapped (λ l. a ∷ l) (many read next left (next a (state s z.done)) m)))) stopped;
+    }
+
+-- lines go by their index
+abbrev pub LinesStop : {A E : Type 0} → (A → List ℕ) → (A → Type 0) → (ℕ → Stops E) → ℕ → Stops E
+LinesStop enc ok one n = EachStop enc (λ _ xs. AllByRecursion ok xs) (λ i xs. i + length xs) one n 0
+
+pub lines_exact : (bs : List ℕ) {A E : Type 0} (read : ℕ → ℕ → Result (A × ℕ) E) (enc : A → List ℕ) (ok : A → Type 0) (stops : ℕ → Stops E) → ((i : ℕ) → Exact bs (read i) enc ok (stops i)) → (n : ℕ) → Exact bs (many read (λ _ j. j + 1) n 0) (flat_map enc) (λ xs. AllByRecursion ok xs × (length xs ≡ n)) (LinesStop enc ok stops n)
+lines_exact bs {A} read enc ok stops exact n =
+    each_exact bs read (λ _ j. j + 1) enc (λ _. ok) stops exact (λ _ xs. AllByRecursion ok xs) (λ i xs. i + length xs) (λ _. tt) (λ _ x xs h rest. (h, rest)) (λ _ x xs h. h) add-zero next_index n 0
+  where
+    next_index : (i : ℕ) (x : A) (xs : List A) → (i + 1) + length xs ≡ i + length (x ∷ xs)
+    next_index i x xs = omega arith

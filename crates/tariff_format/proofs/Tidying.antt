@@ -14,10 +14,9 @@ use Rattle.tariff.specs.Numbers.{encode}
 use Rattle.tariff_format.specs.Encoding.{Tariff, LawfulTariff, list_bytes, fare_bytes, head_bytes, term_bytes, file_bytes}
 use Rattle.tariff_format.specs.Laws.{Proper}
 use Rattle.tariff_format.specs.Lines.{held}
-use Rattle.tariff_format.specs.Tariffs.{WholeList, WholeFare, WholeTerm, WholeTariff, SameTariff}
+use Rattle.tariff_format.specs.Tariffs.{tariff_of, WholeList, WholeFare, WholeTerm, WholeTariff, SameTariff}
 use Rattle.tariff_format.specs.Tidy.{tidy_list, tidy_fare, tidy_head, tidy_term, tidy_tariff}
 use Rattle.tariff_format.proofs.ExactLists.{used_held}
-use Rattle.tariff_format.proofs.Sections.{tariff_of}
 
 -- what tidying does to a lawful, whole record
 pub record Tidied {R : Type 0} (L W : R → Type 0) (tidy : R → R) (enc : R → List ℕ) (x : R) : Type 0 where
