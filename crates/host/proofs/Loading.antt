@@ -5,9 +5,10 @@ use Rattle.lines.specs.declared.fare.FareLine.{FareLine}
 use Rattle.lines.specs.declared.term.TermLine.{TermLine}
 use Rattle.tariff_format.specs.Answers.{FileIs, FileHasFault, FileAnswer}
 use Rattle.tariff_format.specs.Encoding.{Tariff}
+use Rattle.tariff_format.specs.Tariffs.{counts_of}
 use Rattle.tariff_format.specs.declared.counts.Counts.{Counts}
 use Rattle.tariff_format.specs.declared.fault.FileFault.{FileFault}
-use Rattle.tariff_reader.specs.Answers.{counts_of, answer, written, fare_records, term_records}
+use Rattle.tariff_reader.specs.Answers.{answer, written, fare_records, term_records}
 use Rattle.host.specs.declared.tables.Tables.{Tables}
 use Rattle.host.specs.Steps.{tariff_in, InTables}
 

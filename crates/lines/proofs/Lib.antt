@@ -1,4 +1,3 @@
-pub mod Ascents
 pub mod Turns
 pub mod Passing
 pub mod Going

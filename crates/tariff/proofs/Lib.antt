@@ -4,6 +4,7 @@ pub mod Spelling
 pub mod Answering
 pub mod Runs
 pub mod Members
+pub mod Rows
 pub mod Listing
 pub mod Strings
 pub mod Overlays

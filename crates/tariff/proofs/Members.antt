@@ -20,7 +20,7 @@ length_members (suc w) S =
     one true = refl
     one false = refl
 
-pub members_same : (w : ℕ) (S S' : Marks) → ((k : ℕ) → k < w → S k ≡ S' k) → members w S ≡ members w S'
+members_same : (w : ℕ) (S S' : Marks) → ((k : ℕ) → k < w → S k ≡ S' k) → members w S ≡ members w S'
 unfolding members
 members_same zero S S' h = refl
 members_same (suc w) S S' h = ap₂ (λ (xs : List ℕ) (b : Bool). xs ++ cond b (w ∷ []) []) (members_same w S S' (λ k l. h k (omega arith))) (h w (omega arith))
@@ -81,7 +81,7 @@ ascending_last w least (m ∷ ms) a =
     none (x ∷ ms) a e = let l = a.0 in let h = a.1 in absurd (omega arith)
 
 -- lists as sets
-pub adding_append : (S : Marks) (xs ys : List ℕ) → adding S (xs ++ ys) ≡ adding (adding S xs) ys
+adding_append : (S : Marks) (xs ys : List ℕ) → adding S (xs ++ ys) ≡ adding (adding S xs) ys
 adding_append S [] ys = refl
 adding_append S (x ∷ xs) ys = adding_append (with_mark S x) xs ys
 

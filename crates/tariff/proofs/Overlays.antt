@@ -10,7 +10,7 @@ module _ (out : List ℕ) (p : ℕ) (xs : List ℕ) (inside : p ≤ length out) 
   grouped : overlay out p xs ≡ (take p out ++ xs) ++ drop (p + length xs) out
   grouped = sym (append_assoc (take p out) xs (drop (p + length xs) out))
 
-  pub overlay_more : (ys : List ℕ) → overlay (overlay out p xs) (p + length xs) ys ≡ overlay out p (xs ++ ys)
+  overlay_more : (ys : List ℕ) → overlay (overlay out p xs) (p + length xs) ys ≡ overlay out p (xs ++ ys)
   overlay_more ys =
       let q : ℕ = p + length xs in
       let before : take q (overlay out p xs) ≡ take p out ++ xs = ap (take q) grouped ∙ take_at _ _ q front in

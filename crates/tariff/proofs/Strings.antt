@@ -13,7 +13,7 @@ use Rattle.tariff.specs.Facts.{members, facts_bytes, adding, ended, facts_at, Be
 use Rattle.tariff.specs.Lists.{marks_at, Ascending, least_behind}
 use Rattle.tariff.proofs.Tests.{cond_lt}
 use Rattle.tariff.proofs.Answering.{right_answer, only_answer}
-use Rattle.tariff.proofs.Listing.{MarksAre, MarksAnswer, behind, right_marks, marks_read}
+use Rattle.tariff.proofs.Listing.{MarksAnswer, behind_number, right_marks, marks_read}
 use Rattle.tariff.proofs.Members.{length_members, members_ascending, adding_inside, none_inside, adding_members, members_adding}
 
 module _ (w : ℕ) (bs : List ℕ) where
@@ -21,7 +21,7 @@ module _ (w : ℕ) (bs : List ℕ) where
     -- the facts behind a count k that ends at p
     module _ (k p : ℕ) (h : NumberIs 0 512 0 bs 0 k p) where
       after_count : bs ≡ encode k ++ drop p bs
-      after_count = h.stands.front ∙ ap (λ l. encode k ++ l) (sym (behind w bs 0 k p h.stands.rest h.stands.front h.behind))
+      after_count = h.stands.front ∙ ap (λ l. encode k ++ l) (sym (behind_number bs 0 k p h.stands.rest h.stands.front h.behind))
 
       begun : (ms rest : List ℕ) (q : ℕ) → length ms ≤ k → Ascending w 0 ms → drop p bs ≡ flat_map encode ms ++ rest → q ≡ p + length (flat_map encode ms) → Begun w bs k ms q
       begun ms rest q few asc front place = record {
@@ -33,17 +33,17 @@ module _ (w : ℕ) (bs : List ℕ) where
         place = omega (arith, place, h.behind, length-append (encode k) (flat_map encode ms));
       }
 
-      by_end : (ms : List ℕ) (q : ℕ) → MarksAre w bs k 0 p ms q → FactsAnswer w bs (ended bs (adding no_marks ms) q)
+      by_end : (ms : List ℕ) (q : ℕ) → MarksAnswer w bs k 0 p (Ok (ms, q)) → FactsAnswer w bs (ended bs (adding no_marks ms) q)
       by_end ms q g =
-          let start = begun ms (drop q bs) q (let e = g.many in omega arith) g.ascending g.front g.place in
+          let start = begun ms (drop q bs) q (let e = g.many in omega arith) g.lawful g.front g.place in
           cond_lt q (length bs) _ _ (FactsAnswer w bs)
           (λ more. left_over k ms q start g.many more refl)
           (λ past.
           let whole : bs ≡ encode k ++ flat_map encode ms = after_count ∙ ap (λ l. encode k ++ l) (g.front ∙ ap (λ l. flat_map encode ms ++ l) (drop_all q bs past) ∙ append-nil (flat_map encode ms)) in
-          let list = members_adding w ms g.ascending in
+          let list = members_adding w ms g.lawful in
           let count : k ≡ size w (adding no_marks ms) = sym g.many ∙ ap length (sym list) ∙ length_members w (adding no_marks ms) in (
             record {
-              inside = adding_inside w 0 no_marks ms (none_inside w) g.ascending;
+              inside = adding_inside w 0 no_marks ms (none_inside w) g.lawful;
               string = whole ∙ ap₂ (λ (n : ℕ) (l : List ℕ). encode n ++ flat_map encode l) count (sym list);
             },
             start.place ∙ ap length (sym whole),
@@ -51,7 +51,7 @@ module _ (w : ℕ) (bs : List ℕ) where
 
       by_marks : (r : Result (List ℕ × ℕ) NumberFault) → MarksAnswer w bs k 0 p r → FactsAnswer w bs (and_then (mapped (adding no_marks) r) (ended bs))
       by_marks (Ok x) g = by_end x.0 x.1 g
-      by_marks (Err f) g = at_mark k g.marks (p + length (flat_map encode g.marks)) (begun g.marks g.rest _ (let l = g.few in omega arith) g.ascending g.front refl) g.few g.next
+      by_marks (Err f) g = at_mark k g.done (p + length (flat_map encode g.done)) (begun g.done g.rest _ (let l = g.few in omega arith) g.lawful g.front refl) g.few g.refused
 
     by_count : (r : Result (ℕ × ℕ) NumberFault) → NumberAnswer 0 512 0 bs 0 r → FactsAnswer w bs (and_then r (λ k p. and_then (mapped (adding no_marks) (marks_at w bs k 0 p)) (ended bs)))
     by_count (Ok x) h = by_marks x.0 x.1 h (marks_at w bs x.0 0 x.1) (right_marks w bs some bytes x.0 0 x.1)
@@ -69,7 +69,7 @@ module _ (w : ℕ) (bs : List ℕ) where
         let split : bs ≡ encode k ++ (flat_map encode ms ++ b.rest) = b.front ∙ append_assoc (encode k) (flat_map encode ms) b.rest in
         let count : number_at 0 512 0 bs 0 ≡ Ok (k, p) =
         only_answer 0 512 0 bs 0 (Ok (k, p)) (record { stands = record { small = omega arith; rest = flat_map encode ms ++ b.rest; front = split }; limit = (omega arith, c); ascent = omega arith; behind = omega arith }) in
-        let read = marks_read w bs small ms k 0 p b.rest b.some b.ascending (behind w bs 0 k p (flat_map encode ms ++ b.rest) split (omega arith)) in
+        let read = marks_read w bs small ms k 0 p b.rest b.some b.ascending (behind_number bs 0 k p (flat_map encode ms ++ b.rest) split (omega arith)) in
         let place : p + length (flat_map encode ms) ≡ q = omega (arith, b.place, length-append (encode k) (flat_map encode ms)) in
         ap (λ r. and_then r (λ n e. and_then (mapped (adding no_marks) (marks_at w bs n 0 e)) (ended bs))) count
         ∙ ap (λ r. and_then (mapped (adding no_marks) r) (ended bs)) (read ∙ ap (λ e. mapped (λ l. ms ++ l) (marks_at w bs (k - length ms) (least_behind 0 ms) e)) place)

@@ -50,14 +50,7 @@ fn read_string(bytes: &[u8], set: &mut MarkSet) -> Result<(), NumberFault>
     let mut reader = Reader::new(bytes);
     let count = reader.number(0, 512)?;
     read_marks(&mut reader, set, count)?;
-    let byte = reader.place();
-    if byte < bytes.len() {
-        return Err(NumberFault {
-            refusal: Refusal::BytesRemain,
-            byte,
-        });
-    }
-    Ok(())
+    reader.finish()
 }
 
 // The set that the bytes are the facts string of, with the width of the old one.

@@ -22,11 +22,12 @@ use Rattle.tariff_format.specs.Encoding.{Tariff, fare_bytes, term_bytes, file_by
 use Rattle.tariff_format.specs.Faults.{line_fault, outside_lines}
 use Rattle.tariff_format.specs.Files.{opening_at, sections_at, file_at}
 use Rattle.tariff_format.specs.Places.{Limits, opening_bytes, HasRoom, fare_before, term_before, FilePlace, the_width, the_fares, the_terms, fare_line, term_line, file_before, file_limits, place_line, FileReached}
+use Rattle.tariff_format.specs.Tariffs.{tariff_of, counts_of}
 use Rattle.tariff_format.specs.Tidy.{tidy_fare, tidy_term, TidyFare, TidyTerm}
 use Rattle.tariff_format.proofs.Exact.{in_first, in_second, Read, Says}
 use Rattle.tariff_format.proofs.ExactLists.{as_is}
 use Rattle.tariff_format.proofs.Openings.{OpeningSays, opening_says, after, opening_read, width_refused, fares_refused, terms_refused, fares_short, terms_short}
-use Rattle.tariff_format.proofs.Sections.{all_tidy, tidy_all, tariff_of, counts_of, lines_bytes, file_split, lines_ok, lines_stops, sections_exact}
+use Rattle.tariff_format.proofs.Sections.{all_tidy, tidy_all, lines_bytes, file_split, lines_ok, lines_stops, sections_exact}
 
 -- the fault of a number in the line of an index, handed up to the file
 abbrev from_line : Section → ℕ → NumberFault → FileFault

@@ -24,7 +24,7 @@ use Rattle.tariff_format.specs.Tidy.{tidy_fare, tidy_term, tidy_tariff}
 use Rattle.tariff_format.proofs.Answering.{right_file, only_file}
 use Rattle.tariff_format.proofs.Tidying.{tidied_tariff, told_tariff}
 
-pub encode_bytes : (n : ℕ) → n ≤ 65535 → Bytes (encode n)
+encode_bytes : (n : ℕ) → n ≤ 65535 → Bytes (encode n)
 encode_bytes n small = by_form Bytes n (λ h. (omega arith, tt)) (λ h k. (omega arith, (omega arith, tt))) (λ h. (omega arith, (omega arith, (omega arith, tt))))
 
 joined_bytes : {X : Type 0} (enc : X → List ℕ) (P : X → Type 0) → ((x : X) → P x → Bytes (enc x)) → (xs : List X) → AllByRecursion P xs → Bytes (flat_map enc xs)
@@ -59,7 +59,7 @@ module _ (w : ℕ) (small : w ≤ 512) where
       both_bytes (encode (the_kind l.kind).number) (head_bytes l.kind l.head ++ list_bytes l.conditions) (kind_are l.kind)
       (both_bytes (head_bytes l.kind l.head) (list_bytes l.conditions) (head_are l.kind l.head h.head) (list_are l.conditions h.conditions))
 
-pub file_are : (t : Tariff) → LawfulTariff t → Bytes (file_bytes t)
+file_are : (t : Tariff) → LawfulTariff t → Bytes (file_bytes t)
 file_are t h =
     let wide = h.few in let many = h.fares.few in let more = h.terms.few in
     let fares = joined_bytes fare_bytes (LawfulFare t.width) (fare_are t.width wide) t.fares h.fares.each in

@@ -22,7 +22,8 @@ use Rattle.tariff_format.specs.Faults.{line_fault, in_line, as_lines}
 use Rattle.tariff_format.specs.Lines.{list_at, fare_at, kind_of, term_behind, term_at, lines_at}
 use Rattle.tariff_format.specs.Places.{Limits, from_to, a_mark, list_before, FarePlace, the_head, in_conditions, in_unless, fare_before, fare_limits, FareReached, TermPlace, its_kind, its_head, conditions_of, term_before, term_limits, TermReached}
 use Rattle.tariff_format.specs.Tidy.{TidyList, TidyFare, TidyTerm}
-use Rattle.tariff_format.proofs.Exact.{Stops, EitherStop, in_first, in_second, EachStop, LiftedStop, Exact, reworded_exact, mapped_exact, lifted_exact, chosen_exact, rows_exact}
+use Rattle.tariff_format.proofs.Exact.{Stops, EitherStop, in_first, in_second, LiftedStop, Exact, reworded_exact, mapped_exact, lifted_exact, chosen_exact}
+use Rattle.tariff_format.proofs.ExactRows.{LinesStop, lines_exact}
 use Rattle.tariff_format.proofs.ExactLists.{as_is, Starts, AtPlace, list_stops, number_exact, list_exact}
 
 abbrev pub fare_stops : ℕ → Stops NumberFault
@@ -228,10 +229,10 @@ module _ (bs : List ℕ) (bytes : Bytes bs) (w : ℕ) (some : 1 ≤ w) (small : 
 
 -- n lines of a section
 abbrev pub section_stops : {L : Type 0} → Section → (L → List ℕ) → (L → Type 0) → Stops NumberFault → ℕ → Stops FileFault
-section_stops s enc ok stops n = LiftedStop Line (EachStop enc ok (row_stops s stops) n 0)
+section_stops s enc ok stops n = LiftedStop Line (LinesStop enc ok (row_stops s stops) n)
 
 pub section_exact : {L : Type 0} (bs : List ℕ) (s : Section) (read : ℕ → Result (L × ℕ) NumberFault) (enc : L → List ℕ) (ok : L → Type 0) (stops : Stops NumberFault) → Exact bs read enc ok stops → (n : ℕ) → Exact bs (λ p. as_lines (lines_at (λ i q. in_line (record { section = s; index = i }) (read q)) n 0 p)) (flat_map enc) (λ ls. AllByRecursion ok ls × (length ls ≡ n)) (section_stops s enc ok stops n)
 section_exact bs s read enc ok stops exact n =
-    lifted_exact bs (lines_at (λ i q. in_line (record { section = s; index = i }) (read q)) n 0) (flat_map enc) (λ ls. AllByRecursion ok ls × (length ls ≡ n)) (EachStop enc ok (row_stops s stops) n 0) Line as_lines (λ _. refl) (λ _. refl)
-    (rows_exact bs (λ i q. in_line (record { section = s; index = i }) (read q)) enc ok (row_stops s stops)
+    lifted_exact bs (lines_at (λ i q. in_line (record { section = s; index = i }) (read q)) n 0) (flat_map enc) (λ ls. AllByRecursion ok ls × (length ls ≡ n)) (LinesStop enc ok (row_stops s stops) n) Line as_lines (λ _. refl) (λ _. refl)
+    (lines_exact bs (λ i q. in_line (record { section = s; index = i }) (read q)) enc ok (row_stops s stops)
     (λ i. lifted_exact bs read enc ok stops (line_fault (record { section = s; index = i })) (in_line (record { section = s; index = i })) (λ _. refl) (λ _. refl) exact) n)

@@ -1,24 +1,24 @@
 -- Numbers, marks and lists are read exactly.
-use Rattle.std.proofs.Common.{◌≡◌, ℕ, suc, ◌+◌, ◌-◌, ◌<◌, ◌≤◌, List, [], ◌∷◌, ◌++◌, length, drop, replicate, Ok, Err, Result, sym, refl, ap, ◌∙◌, subst, add-zero, arith}
+use Rattle.std.proofs.Common.{◌≡◌, ℕ, ◌+◌, ◌-◌, ◌≤◌, List, [], ◌++◌, length, drop, replicate, Ok, Err, Result, sym, refl, ap, ◌∙◌, subst, add-zero, arith}
 use Rattle.std.specs.List.{flat_map}
 use Rattle.std.proofs.lemmas.List.{append-nil, take_at}
 use Rattle.lines.specs.declared.list.MarkList.{MarkList}
-use Rattle.lines.specs.Lawful.{Ascends, AllBelow}
 use Rattle.lines.specs.Records.{used}
-use Rattle.lines.proofs.Ascents as ascents
 use Rattle.tariff.specs.declared.fault.NumberFault.{NumberFault}
 use Rattle.tariff.specs.Faults.{Within, Fails, NumberAnswer}
 use Rattle.tariff.specs.Lists.{marks_at, Ascending, least_behind}
 use Rattle.tariff.specs.Numbers.{Bytes, encode}
-use Rattle.tariff.specs.Readings.{and_then, mapped, fault, number_at}
+use Rattle.tariff.specs.Readings.{mapped, fault, number_at}
 use Rattle.tariff.proofs.Answering.{right_answer, only_answer}
-use Rattle.tariff.proofs.Listing as listing
+use Rattle.tariff.proofs.Rows.{behind}
 use Rattle.tariff_format.specs.Answers.{FailsAt}
 use Rattle.tariff_format.specs.Encoding.{list_bytes}
 use Rattle.tariff_format.specs.Lines.{held, list_at}
 use Rattle.tariff_format.specs.Places.{Limits, from_to, ListPlace, the_count, mark_of, list_before, list_limits, ListReached}
 use Rattle.tariff_format.specs.Tidy.{TidyList}
-use Rattle.tariff_format.proofs.Exact.{Stops, EitherStop, in_first, in_second, behind, Says, Exact, reworded_exact, mapped_exact, chosen_exact}
+use Rattle.tariff_format.proofs.Ascents.{ascends_ascending, ascending_ascends}
+use Rattle.tariff_format.proofs.Exact.{Stops, EitherStop, in_first, in_second, Says, Exact, reworded_exact, mapped_exact, chosen_exact}
+use Rattle.tariff_format.proofs.ExactRows.{EachStop, each_exact}
 
 -- a number's fault as it is
 abbrev pub as_is : NumberFault → NumberFault
@@ -42,24 +42,8 @@ abbrev pub list_stops : ℕ → Stops NumberFault
 list_stops w = AtPlace list_before (list_limits w) (ListReached w)
 
 -- the places of k marks
-record MarksStop (w k : ℕ) (before : List ℕ) (at : Limits) (up : NumberFault → NumberFault) : Type 0 where
-  marks : List ℕ
-  few : length marks < k
-  ascending : Ascending w 0 marks
-  front : before ≡ flat_map encode marks
-  within : at ≡ record { low = 0; high = w - 1; least = least_behind 0 marks }
-  same : up ≡ as_is
-
-pub ascending_lawful : (w least : ℕ) (ms : List ℕ) → Ascending w least ms → ascents.Ascending w least ms
-ascending_lawful w least [] h = tt
-ascending_lawful w least (m ∷ ms) h = (h.0, h.1, ascending_lawful w (m + 1) ms h.2)
-
-lawful_from : (w least : ℕ) (ms : List ℕ) → ascents.Ascending w least ms → Ascending w least ms
-lawful_from w least [] h = tt
-lawful_from w least (m ∷ ms) h = (h.0, h.1, lawful_from w (m + 1) ms h.2)
-
-pub lawful_ascending : (w : ℕ) (ms : List ℕ) → Ascends ms → AllBelow w ms → Ascending w 0 ms
-lawful_ascending w ms a b = lawful_from w 0 ms (ascents.ascends_ascending w ms a b)
+abbrev MarksStop : ℕ → ℕ → Stops NumberFault
+MarksStop w k = EachStop encode (Ascending w) least_behind (λ least. Starts (record { low = 0; high = w - 1; least = least })) k 0
 
 -- the marks of a record that holds them
 pub used_held : (ms : List ℕ) → used (held ms) ≡ ms
@@ -99,46 +83,12 @@ module _ (bs : List ℕ) (bytes : Bytes bs) where
 
   module _ (w : ℕ) (some : 1 ≤ w) (small : w ≤ 512) where
     abbrev marks_ok : ℕ → List ℕ → Type 0
-    marks_ok k ms = (length ms ≡ k) × Ascending w 0 ms
-
-    marks_say : (k p : ℕ) (r : Result (List ℕ × ℕ) NumberFault) → listing.MarksAnswer w bs k 0 p r → Says bs (flat_map encode) (marks_ok k) (MarksStop w k) p r
-    marks_say k p (Ok x) h = record { lawful = (h.many, h.ascending); place = h.place; front = h.front }
-    marks_say k p (Err e) h =
-        let q : ℕ = p + length (flat_map encode h.marks) in
-        record {
-          before = flat_map encode h.marks;
-          at = record { low = 0; high = w - 1; least = least_behind 0 h.marks };
-          up = as_is;
-          why = e.refusal;
-          rest = drop q bs;
-          stop = record { marks = h.marks; few = h.few; ascending = h.ascending; front = refl; within = refl; same = refl };
-          front = h.front ∙ ap (λ l. flat_map encode h.marks ++ l) (sym (behind bs p (flat_map encode h.marks) h.rest h.front));
-          test = h.next.test;
-          is = ap (fault e.refusal) h.next.start;
-        }
+    marks_ok k ms = Ascending w 0 ms × (length ms ≡ k)
 
     marks_exact : (k : ℕ) → Exact bs (marks_at w bs k 0) (flat_map encode) (marks_ok k) (MarksStop w k)
-    marks_exact k = record {
-      says = λ p. marks_say k p (marks_at w bs k 0 p) (listing.right_marks w bs some bytes k 0 p);
-      reads = λ ms p rest lawful h.
-          let none : k - length ms ≡ 0 = omega (arith, lawful.0) in
-          let q : ℕ = p + length (flat_map encode ms) in
-          listing.marks_read w bs small ms k 0 p rest (omega (arith, lawful.0)) lawful.1 h
-          ∙ ap (λ n. mapped (λ l. ms ++ l) (marks_at w bs n (least_behind 0 ms) q)) none
-          ∙ ap (λ l. Ok (l, q)) (append-nil ms);
-      refuses = λ p e r.
-          let s = r.stop in
-          let ms : List ℕ = s.marks in
-          let fewer = s.few in
-          let q : ℕ = p + length (flat_map encode ms) in
-          let front : drop p bs ≡ flat_map encode ms ++ r.rest = r.front ∙ ap (λ l. l ++ r.rest) s.front in
-          let left : k - length ms ≡ suc (k - (length ms + 1)) = omega arith in
-          let byte : p + length r.before ≡ q + 0 = omega (arith, ap length s.front) in
-          let one = (number_exact 0 (w - 1) (least_behind 0 ms) (omega arith)).refuses q e (record { before = []; at = r.at; up = r.up; why = r.why; rest = r.rest; stop = record { none = refl; within = s.within; same = s.same }; front = behind bs p (flat_map encode ms) r.rest front; test = r.test; is = r.is ∙ ap (λ n. r.up (fault r.why n)) byte }) in
-          listing.marks_read w bs small ms k 0 p r.rest (omega arith) s.ascending front
-          ∙ ap (λ n. mapped (λ l. ms ++ l) (marks_at w bs n (least_behind 0 ms) q)) left
-          ∙ ap (λ z. mapped (λ l. ms ++ l) (and_then z (λ m n. mapped (λ l. m ∷ l) (marks_at w bs (k - (length ms + 1)) (m + 1) n)))) one;
-    }
+    marks_exact k =
+        each_exact bs (λ least p. number_at 0 (w - 1) least bs p) (λ m _. m + 1) encode (λ least m. Within 0 (w - 1) m × (least ≤ m)) (λ least. Starts (record { low = 0; high = w - 1; least = least })) (λ least. number_exact 0 (w - 1) least (omega arith))
+        (Ascending w) least_behind (λ _. tt) (λ least m ms h rest. let low = h.0.1 in (h.1, omega arith, rest)) (λ least m ms h. let low = h.1 in (((omega arith, omega arith), h.0), h.2)) (λ _. refl) (λ _ _ _. refl) k 0
 
     -- the marks of a list of which the count is k
     abbrev rest_ok : ℕ → MarkList → Type 0
@@ -151,7 +101,7 @@ module _ (bs : List ℕ) (bytes : Bytes bs) where
     parts_stops = EitherStop encode count_ok (Starts (from_to 0 8)) (MarksStop w)
 
     shows_count : (k : ℕ) (l : MarkList) → rest_ok k l → l.count ≡ k
-    shows_count k l h = sym (ap (λ (m : MarkList). m.count) h.1) ∙ h.0.0
+    shows_count k l h = sym (ap (λ (m : MarkList). m.count) h.1) ∙ h.0.1
 
     parts_exact : Exact bs (list_at w bs) list_bytes (λ l. count_ok l.count × rest_ok l.count l) parts_stops
     parts_exact =
@@ -162,27 +112,27 @@ module _ (bs : List ℕ) (bytes : Bytes bs) where
     to_parts : (l : MarkList) → TidyList w l → count_ok l.count × rest_ok l.count l
     to_parts l h =
         let count = ap (λ (m : MarkList). m.count) h.zeros in
-        (((omega arith, h.lawful.count), omega arith), ((count, lawful_ascending w (used l) h.lawful.ascends h.lawful.below), h.zeros))
+        (((omega arith, h.lawful.count), omega arith), ((ascends_ascending w (used l) h.lawful.ascends h.lawful.below, count), h.zeros))
 
     from_parts : (l : MarkList) → count_ok l.count × rest_ok l.count l → TidyList w l
     from_parts l h =
-        let lawful = ascents.ascending_ascends w 0 (used l) (ascending_lawful w 0 (used l) h.1.0.1) in
+        let lawful = ascending_ascends w 0 (used l) h.1.0.0 in
         record { lawful = record { count = h.0.0.1; ascends = lawful.0; below = lawful.1 }; zeros = h.1.1 }
 
     to_stop : (before : List ℕ) (at : Limits) (up : NumberFault → NumberFault) (place : ListPlace) → ListReached w place → before ≡ list_before place → at ≡ list_limits w place → up ≡ as_is → parts_stops before at up
     to_stop before at up the_count reached front within same = in_first (record { none = front; within = within; same = same })
     to_stop before at up (mark_of k ms) reached front within same =
         in_second k (flat_map encode ms) ((omega arith, reached.0), omega arith) front
-        (record { marks = ms; few = reached.1; ascending = reached.2; front = refl; within = within; same = same })
+        (record { done = ms; more = []; lawful = reached.2; few = reached.1; split = sym (append-nil (flat_map encode ms)); stop = record { none = refl; within = within; same = same } })
 
     from_stop : (before : List ℕ) (at : Limits) (up : NumberFault → NumberFault) → parts_stops before at up → list_stops w before at up
     from_stop before at up (in_first s) = record { place = the_count; reached = tt; front = s.none; within = s.within; same = s.same }
     from_stop before at up (in_second k more lawful split s) = record {
-      place = mark_of k s.marks;
-      reached = (lawful.0.1, s.few, s.ascending);
-      front = split ∙ ap (λ l. encode k ++ l) s.front;
-      within = s.within;
-      same = s.same;
+      place = mark_of k s.done;
+      reached = (lawful.0.1, s.few, s.lawful);
+      front = split ∙ ap (λ l. encode k ++ l) (s.split ∙ ap (λ l. flat_map encode s.done ++ l) s.stop.none ∙ append-nil (flat_map encode s.done));
+      within = s.stop.within;
+      same = s.stop.same;
     }
 
     pub list_exact : Exact bs (list_at w bs) list_bytes (TidyList w) (list_stops w)

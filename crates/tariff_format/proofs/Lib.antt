@@ -1,4 +1,6 @@
+pub mod Ascents
 pub mod Exact
+pub mod ExactRows
 pub mod ExactLists
 pub mod ExactLines
 pub mod Sections

@@ -95,14 +95,14 @@ module _ (m n : ℕ) (bs : List ℕ) (bytes : Bytes bs) where
   after xs rest h = ap (drop (length xs)) h ∙ drop_at xs rest (length xs) refl
 
   -- numbers that stand in the bytes are read
-  pub width_read : (w : ℕ) (rest : List ℕ) → Within 1 512 w → bs ≡ encode w ++ rest → (opening_at m n bs 0 ≡ behind_width w (length (encode w))) × (drop (length (encode w)) bs ≡ rest)
+  width_read : (w : ℕ) (rest : List ℕ) → Within 1 512 w → bs ≡ encode w ++ rest → (opening_at m n bs 0 ≡ behind_width w (length (encode w))) × (drop (length (encode w)) bs ≡ rest)
   width_read w rest right front =
       let far : 0 + length (encode w) ≡ length (encode w) = omega arith in (
         ap (λ r. and_then r behind_width) ((number_exact bs bytes 1 512 0 (omega arith)).reads w 0 rest (right, omega arith) front) ∙ ap (behind_width w) far,
         after (encode w) rest front,
       )
 
-  pub fares_read : (w f : ℕ) (rest : List ℕ) → Within 1 512 w → Within 0 1024 f → bs ≡ (encode w ++ encode f) ++ rest → (opening_at m n bs 0 ≡ behind_fares w (length (encode w)) f (length (encode w ++ encode f))) × (drop (length (encode w ++ encode f)) bs ≡ rest)
+  fares_read : (w f : ℕ) (rest : List ℕ) → Within 1 512 w → Within 0 1024 f → bs ≡ (encode w ++ encode f) ++ rest → (opening_at m n bs 0 ≡ behind_fares w (length (encode w)) f (length (encode w ++ encode f))) × (drop (length (encode w ++ encode f)) bs ≡ rest)
   fares_read w f rest wide many front =
       let first = width_read w (encode f ++ rest) wide (front ∙ append_assoc (encode w) (encode f) rest) in
       let a : ℕ = length (encode w) in
@@ -113,7 +113,7 @@ module _ (m n : ℕ) (bs : List ℕ) (bytes : Bytes bs) where
         after (encode w ++ encode f) rest front,
       )
 
-  pub counts_read : (h : Counts) (rest : List ℕ) → RightCounts h → bs ≡ opening_bytes h ++ rest → opening_at m n bs 0 ≡ room_for m n (length (encode h.width)) (length (encode h.width ++ encode h.fares)) h (length (opening_bytes h))
+  counts_read : (h : Counts) (rest : List ℕ) → RightCounts h → bs ≡ opening_bytes h ++ rest → opening_at m n bs 0 ≡ room_for m n (length (encode h.width)) (length (encode h.width ++ encode h.fares)) h (length (opening_bytes h))
   counts_read h rest right front =
       let before : List ℕ = encode h.width ++ encode h.fares in
       let same : before ++ encode h.terms ≡ opening_bytes h = append_assoc (encode h.width) (encode h.fares) (encode h.terms) in

@@ -13,6 +13,7 @@ use Rattle.tariff_format.specs.Faults.{as_lines}
 use Rattle.tariff_format.specs.Files.{sections_at}
 use Rattle.tariff_format.specs.Lines.{fare_at, term_at, fare_line_at, term_line_at, lines_at}
 use Rattle.tariff_format.specs.Places.{opening_bytes, RightCounts}
+use Rattle.tariff_format.specs.Tariffs.{tariff_of, counts_of}
 use Rattle.tariff_format.specs.Tidy.{Tidy, TidyFare, TidyTerm}
 use Rattle.tariff_format.proofs.Exact.{Stops, EitherStop, Exact, mapped_exact, chosen_exact}
 use Rattle.tariff_format.proofs.ExactLines.{fare_stops, term_stops, section_stops, fare_exact, term_exact, section_exact}
@@ -28,12 +29,6 @@ all_tidy L tidy (x ∷ xs) lawful zeros =
 pub tidy_all : {R : Type 0} (L : R → Type 0) (tidy : R → R) (xs : List R) → AllByRecursion (Tidy L tidy) xs → AllByRecursion L xs × (map tidy xs ≡ xs)
 tidy_all L tidy [] h = (tt, refl)
 tidy_all L tidy (x ∷ xs) h = let rest = tidy_all L tidy xs h.1 in ((h.0.lawful, rest.0), (λ i. h.0.zeros i ∷ rest.1 i))
-
-abbrev pub tariff_of : ℕ → List FareLine → List TermLine → Tariff
-tariff_of w fs ts = record { width = w; fares = fs; terms = ts }
-
-abbrev pub counts_of : Tariff → Counts
-counts_of t = record { width = t.width; fares = length t.fares; terms = length t.terms }
 
 abbrev pub lines_bytes : Tariff → List ℕ
 lines_bytes t = flat_map fare_bytes t.fares ++ flat_map term_bytes t.terms

@@ -14,10 +14,9 @@ use Rattle.tariff.specs.Numbers.{encode}
 use Rattle.tariff_format.specs.Encoding.{Tariff, LawfulTariff, list_bytes, fare_bytes, head_bytes, term_bytes, file_bytes}
 use Rattle.tariff_format.specs.Laws.{Proper}
 use Rattle.tariff_format.specs.Lines.{held}
-use Rattle.tariff_format.specs.Tariffs.{WholeList, WholeFare, WholeTerm, WholeTariff, SameTariff}
+use Rattle.tariff_format.specs.Tariffs.{tariff_of, WholeList, WholeFare, WholeTerm, WholeTariff, SameTariff}
 use Rattle.tariff_format.specs.Tidy.{tidy_list, tidy_fare, tidy_head, tidy_term, tidy_tariff}
 use Rattle.tariff_format.proofs.ExactLists.{used_held}
-use Rattle.tariff_format.proofs.Sections.{tariff_of}
 
 -- what tidying does to a lawful, whole record
 pub record Tidied {R : Type 0} (L W : R → Type 0) (tidy : R → R) (enc : R → List ℕ) (x : R) : Type 0 where
@@ -48,7 +47,7 @@ module _ (w : ℕ) where
       let marks : used a ≡ used b = sym (used_held (used a)) ∙ ap used e ∙ used_held (used b) in
       record { count = sym (used_all a ha wa) ∙ ap length marks ∙ used_all b hb wb; marks = marks }
 
-  pub tidied_fare : (l : FareLine) → LawfulFare w l → WholeFare l → Tidied (LawfulFare w) WholeFare tidy_fare fare_bytes l
+  tidied_fare : (l : FareLine) → LawfulFare w l → WholeFare l → Tidied (LawfulFare w) WholeFare tidy_fare fare_bytes l
   tidied_fare l h whole =
       let cs = tidied_list l.conditions h.conditions whole.conditions in
       let us = tidied_list l.unless h.unless whole.unless in
@@ -59,7 +58,7 @@ module _ (w : ℕ) where
         bytes = (λ i. encode l.head ++ (cs.bytes i ++ us.bytes i));
       }
 
-  pub told_fare : (a b : FareLine) → LawfulFare w a → WholeFare a → LawfulFare w b → WholeFare b → tidy_fare a ≡ tidy_fare b → SameFare a b
+  told_fare : (a b : FareLine) → LawfulFare w a → WholeFare a → LawfulFare w b → WholeFare b → tidy_fare a ≡ tidy_fare b → SameFare a b
   told_fare a b ha wa hb wb e = record {
     head = ap (λ (l : FareLine). l.head) e;
     conditions = told_list a.conditions b.conditions ha.conditions wa.conditions hb.conditions wb.conditions (ap (λ (l : FareLine). l.conditions) e);
@@ -83,7 +82,7 @@ module _ (w : ℕ) where
   head_kept Gives m = refl
   head_kept Denies m = refl
 
-  pub tidied_term : (l : TermLine) → LawfulTerm w l → WholeTerm l → Tidied (LawfulTerm w) WholeTerm tidy_term term_bytes l
+  tidied_term : (l : TermLine) → LawfulTerm w l → WholeTerm l → Tidied (LawfulTerm w) WholeTerm tidy_term term_bytes l
   tidied_term l h whole =
       let cs = tidied_list l.conditions h.conditions whole in
       record {
@@ -93,7 +92,7 @@ module _ (w : ℕ) where
         bytes = (λ i. encode (the_kind l.kind).number ++ (head_same l.kind l.head i ++ cs.bytes i));
       }
 
-  pub told_term : (a b : TermLine) → LawfulTerm w a → WholeTerm a → LawfulTerm w b → WholeTerm b → tidy_term a ≡ tidy_term b → SameTerm a b
+  told_term : (a b : TermLine) → LawfulTerm w a → WholeTerm a → LawfulTerm w b → WholeTerm b → tidy_term a ≡ tidy_term b → SameTerm a b
   told_term a b ha wa hb wb e = record {
     kind = ap (λ (l : TermLine). l.kind) e;
     head = sym (head_kept a.kind a.head) ∙ ap term_head e ∙ head_kept b.kind b.head;
@@ -105,14 +104,14 @@ module _ {R : Type 0} (L W : R → Type 0) (tidy : R → R) (enc : R → List �
   abbrev AllTidied : List R → Type 0
   AllTidied xs = (AllByRecursion L (map tidy xs) × AllByRecursion W (map tidy xs)) × (map tidy (map tidy xs) ≡ map tidy xs) × (flat_map enc (map tidy xs) ≡ flat_map enc xs)
 
-  pub all_tidied : ((x : R) → L x → W x → Tidied L W tidy enc x) → (xs : List R) → AllByRecursion L xs → AllByRecursion W xs → AllTidied xs
+  all_tidied : ((x : R) → L x → W x → Tidied L W tidy enc x) → (xs : List R) → AllByRecursion L xs → AllByRecursion W xs → AllTidied xs
   all_tidied each [] lawful whole = ((tt, tt), refl, refl)
   all_tidied each (x ∷ xs) lawful whole =
       let one = each x lawful.0 whole.0 in
       let rest = all_tidied each xs lawful.1 whole.1 in
       (((one.lawful, rest.0.0), (one.whole, rest.0.1)), (λ i. one.zeros i ∷ rest.1 i), (λ i. one.bytes i ++ rest.2 i))
 
-  pub all_told : (S : R → R → Type 0) → ((x y : R) → L x → W x → L y → W y → tidy x ≡ tidy y → S x y) → (xs ys : List R) → AllByRecursion L xs → AllByRecursion W xs → AllByRecursion L ys → AllByRecursion W ys → map tidy xs ≡ map tidy ys → AllZip S xs ys
+  all_told : (S : R → R → Type 0) → ((x y : R) → L x → W x → L y → W y → tidy x ≡ tidy y → S x y) → (xs ys : List R) → AllByRecursion L xs → AllByRecursion W xs → AllByRecursion L ys → AllByRecursion W ys → map tidy xs ≡ map tidy ys → AllZip S xs ys
   all_told S each [] [] lx wx ly wy e = tt
   all_told S each [] (y ∷ ys) lx wx ly wy e = absurd (cc)
   all_told S each (x ∷ xs) [] lx wx ly wy e = absurd (cc)

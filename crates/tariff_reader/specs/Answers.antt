@@ -9,7 +9,7 @@ use Rattle.tariff_format.specs.Answers.{FileAnswer}
 use Rattle.tariff_format.specs.Encoding.{Tariff, file_bytes}
 use Rattle.tariff_format.specs.Files.{file_at}
 use Rattle.tariff_format.specs.Laws.{Proper}
-use Rattle.tariff_format.specs.Tariffs.{SameTariff}
+use Rattle.tariff_format.specs.Tariffs.{counts_of, SameTariff}
 use Rattle.tariff_format.specs.Tidy.{tidy_tariff}
 
 -- so many lines are read, and q is the place behind them
@@ -19,9 +19,6 @@ pub record Reads {L E : Type 0} (r : Result (List L × ℕ) E) (n q : ℕ) : Typ
   pub value : r ≡ Ok (lines, q)
 
 -- the width and how many lines there are, or the fault
-abbrev pub counts_of : Tariff → Counts
-counts_of t = record { width = t.width; fares = length t.fares; terms = length t.terms }
-
 abbrev pub answer : Result (Tariff × ℕ) FileFault → Result Counts FileFault
 answer (Ok x) = Ok (counts_of x.0)
 answer (Err f) = Err f

@@ -7,9 +7,7 @@ use crate::opening::read_opening;
 use crate::section::{fill, skim};
 use lines::fare::FareLine;
 use lines::term::TermLine;
-use marks::refusal::Refusal;
 use tariff::cursor::Reader;
-use tariff::fault::NumberFault;
 use tariff_format::counts::Counts;
 use tariff_format::fault::FileFault;
 
@@ -21,13 +19,7 @@ fn scan(bytes: &[u8], fares: usize, terms: usize) -> Result<Counts, FileFault>
     let counts = read_opening(&mut reader, fares, terms)?;
     skim::<FareLine>(&mut reader, counts.width, counts.fares)?;
     skim::<TermLine>(&mut reader, counts.width, counts.terms)?;
-    let byte = reader.place();
-    if byte < bytes.len() {
-        return Err(FileFault::Number(NumberFault {
-            refusal: Refusal::BytesRemain,
-            byte,
-        }));
-    }
+    reader.finish()?;
     Ok(counts)
 }
 

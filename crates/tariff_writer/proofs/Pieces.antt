@@ -6,9 +6,9 @@ use Rattle.lines.specs.declared.term.TermLine.{TermLine}
 use Rattle.lines.specs.Records.{the_kind}
 use Rattle.tariff.specs.Numbers.{encode}
 use Rattle.tariff_format.specs.Encoding.{list_bytes, fare_bytes, head_bytes, term_bytes, file_bytes}
-use Rattle.tariff_writer.specs.Calls.{tariff_of}
+use Rattle.tariff_format.specs.Tariffs.{tariff_of}
 
-pub length_three : (xs ys zs : List ℕ) → length (xs ++ (ys ++ zs)) ≡ length xs + (length ys + length zs)
+length_three : (xs ys zs : List ℕ) → length (xs ++ (ys ++ zs)) ≡ length xs + (length ys + length zs)
 length_three xs ys zs = simp length-append
 
 -- how long a line is

@@ -3,8 +3,6 @@ use Rattle.std.specs.Prelude.{◌≡◌, ℕ, ◌<◌, ◌≤◌, List, length, 
 use Rattle.marks.specs.declared.refusal.Refusal.{Refusal}
 use Rattle.marks.specs.MarkSets.{BadWidth}
 use Rattle.marks.specs.Refusals.{Refuses, Gives, Test}
-use Rattle.lines.specs.declared.fare.FareLine.{FareLine}
-use Rattle.lines.specs.declared.term.TermLine.{TermLine}
 use Rattle.lines.specs.Lawful.{LawfulFare, LawfulTerm, AllLawful}
 use Rattle.tariff.specs.Numbers.{Bytes}
 use Rattle.tariff.specs.Writings.{Written}
@@ -12,10 +10,6 @@ use Rattle.tariff_format.specs.Encoding.{Tariff, LawfulTariff, file_bytes}
 use Rattle.tariff_format.specs.Files.{file_at}
 use Rattle.tariff_format.specs.Laws.{Proper}
 use Rattle.tariff_format.specs.Tidy.{tidy_tariff}
-
--- the tariff that a width and records in the caller's memory are
-abbrev pub tariff_of : ℕ → List FareLine → List TermLine → Tariff
-tariff_of w fares terms = record { width = w; fares = fares; terms = terms }
 
 -- at most 1,024 fare and 512 term records, each lawful for the width
 pub record LawfulRecords (t : Tariff) : Type 0 where

@@ -1,5 +1,6 @@
 // A tariff written as a file.
-ghost use Rattle.tariff_writer.specs.Calls.{tariff_of, Sizes, WritesFile};
+ghost use Rattle.tariff_format.specs.Tariffs.{tariff_of};
+ghost use Rattle.tariff_writer.specs.Calls.{Sizes, WritesFile};
 
 use crate::lent::Tariff;
 use lines::fare::FareLine;

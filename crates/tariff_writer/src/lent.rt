@@ -1,6 +1,6 @@
 // A tariff where the caller has it.
 ghost use Rattle.tariff_format.specs.Encoding.{LawfulTariff};
-ghost use Rattle.tariff_writer.specs.Calls.{tariff_of};
+ghost use Rattle.tariff_format.specs.Tariffs.{tariff_of};
 ghost use Rattle.tariff_writer.specs.Props.{lawful-prop};
 
 use lines::fare::FareLine;

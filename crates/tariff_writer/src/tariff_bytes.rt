@@ -2,7 +2,8 @@
 ghost use Rattle.std.specs.Prelude.{◌≡◌, ◌≤◌, length};
 ghost use Rattle.tariff_format.specs.Encoding.{file_bytes};
 ghost use Rattle.tariff_format.specs.Laws.{Proper};
-ghost use Rattle.tariff_writer.specs.Calls.{tariff_of, Checks, Sized, Filed};
+ghost use Rattle.tariff_format.specs.Tariffs.{tariff_of};
+ghost use Rattle.tariff_writer.specs.Calls.{Checks, Sized, Filed};
 ghost use Rattle.tariff_writer.specs.Lent.{the_tariff};
 
 use crate::encode::Encode;

@@ -35,4 +35,4 @@ returns c =
     checked c.args.fares c.args.terms c.args.bytes.now h p q e
     (opening.value ∙ (λ i. opening_at c.args.fares c.args.terms (new.bytes i) (new.place i)))
     (subst (λ t. Reads (lines_at (fare_line_at h.width t) h.fares 0 p) h.fares q) same first.value)
-    (subst (λ t. Reads (lines_at (term_line_at h.width t) h.terms 0 q) h.terms e) (first.same ∙ same) second.value) (omega arith)
+    (subst (λ t. Reads (lines_at (term_line_at h.width t) h.terms 0 q) h.terms e) (first.same ∙ same) second.value) (omega (arith, ap length (second.same ∙ first.same ∙ same)))

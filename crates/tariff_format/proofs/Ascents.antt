@@ -1,13 +1,9 @@
--- Marks that ascend, from a least mark on, one by one.
+-- Marks that ascend one by one, as they are read, ascend as a lawful list does, and the other way.
 use Rattle.std.proofs.Common.{ℕ, ◌+◌, ◌<◌, ◌≤◌, List, [], ◌∷◌, arith}
 use Rattle.std.proofs.ByRecursion.{All-weaker}
 use Rattle.std.specs.List.{AllByRecursion}
 use Rattle.lines.specs.Lawful.{Ascends, AllBelow}
-
--- marks below w that ascend strictly, the first of them not below least
-abbrev pub Ascending : (w least : ℕ) → List ℕ → Type 0
-Ascending w least [] = Unit {0}
-Ascending w least (m ∷ ms) = (least ≤ m) × (m < w) × Ascending w (m + 1) ms
+use Rattle.tariff.specs.Lists.{Ascending}
 
 at_least : (w least : ℕ) (ms : List ℕ) → Ascending w least ms → AllByRecursion (λ m. least ≤ m) ms
 at_least w least [] h = tt
