@@ -22,6 +22,8 @@ spell 4 1 128 => ok 3 aa8001aa
 spell 2 1 128 => refused 13 aaaa
 facts 5 020003 => ok 0,3 2 020003
 facts 5 00 => ok . 0 00
+string 4 5:0,3 => ok 3 020003aa
+string 2 5:0,3 => refused 13 aaaa
 read 2 2 SAMPLE => ok 5 1/3/2+4/3/1 2/0+!/1,2 SAMPLE
 read 1 2 SAMPLE => fault 5 1
 read 2 2 0502020109 => fault 3 4 1 0
@@ -36,6 +38,7 @@ sound 0//1+1//0 2: 2:0 bare 2 => yes
 list 5 8 e3;s1;a1;e3;x9;e0;s2;a1 1/3/2+4/3/1 line 5 2/0+!/1,2 => ok done;clear/3;holds;r10;r9;done;clear/3;not
 list 5 1 e3;s1 - bare 5 => refused 13
 sheets 5 5 0e0;0e3;0s1;0c;0t5:0,2,3,4;1s1;0l 1/3/2+4/3/1 line 5 2/0+!/1,2 => ok done;done;clear/3;4/1/0/0;yes;clear/2;no
+sheets 3 3 0s1;0bs1;0a0;0t3:0,1;0bt3:0;1s2;1x0;1bs2;0l 1//&3// line 3 0/1 => ok clear/2;r8;holds;yes;r8;clear/2;r11;r8;yes
 """)
 
 # FORMAT.md, numbers

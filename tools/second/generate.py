@@ -925,13 +925,271 @@ def put_sheets():
         put("sheets", width, other, calls, fares, book)
 
 
+def put_strings():
+    """Facts strings into bytes that are enough, just enough, and one too few."""
+    for width in EDGES:
+        for marks in ([], [width - 1], [0, width - 1], range(width), ascending(width, 12)):
+            marks = sorted(set(marks))
+            size = len(facts_string(marks))
+            for room in (0, size - 1, size, size + 2):
+                put("string", room, set_word(width, marks))
+
+
+def faulty(numbers):
+    """The numbers as bytes, in each of which one number fails one of its tests or only just does not.
+
+    A number is a tuple: its value, the lowest and highest value that it may have, and the mark before it, if any."""
+    forms = [leb.encode(value) for value, _, _, _ in numbers]
+    for index, (_, low, high, before) in enumerate(numbers):
+        front, behind = b"".join(forms[:index]), b"".join(forms[index + 1:])
+        yield front
+        yield front + b"\x80"
+        yield front + b"\xff\x80"
+        # malformed, also where a later test would fail
+        longer = bytes([byte | 128 for byte in forms[index]]) + b"\0"
+        for form in (longer, b"\x80\x80\x80\0", b"\x80\x80\x04", b"\x80\x80\x80"):
+            yield front + form + behind
+        values = {low, high, high + 1, 65535}
+        if low:
+            values.add(low - 1)
+        if before is not None:
+            values |= {before, max(before - 1, 0), before + 1}
+        for value in sorted(values):
+            yield front + leb.encode(value) + behind
+    whole = b"".join(forms)
+    yield whole
+    yield whole + b"\0"
+    yield whole + b"\x80"
+
+
+def list_numbers(marks, most, width):
+    """A list as numbers."""
+    return [(len(marks), 0, most, None)] + [(mark, 0, width - 1, before)
+                                            for mark, before in zip(marks, [None] + marks)]
+
+
+def put_places():
+    """Each number of a file and of a facts string with each of its faults, by the readers and by the host call."""
+    width = 300
+    numbers = [(width, 1, 512, None), (2, 0, 1024, None), (3, 0, 512, None)]
+    for head, conditions, unless in ((299, [0, 128, 130], [5, 200]), (0, [], [299])):
+        numbers += [(head, 0, width - 1, None)] + list_numbers(conditions, 8, width) \
+            + list_numbers(unless, 8, width)
+    for head, conditions in ((200, [128, 129]), (None, [0, 299]), (1, [])):
+        numbers += [(2, 1, 2, None)] if head is None else [(1, 1, 2, None), (head, 0, width - 1, None)]
+        numbers += list_numbers(conditions, 8, width)
+    for data in faulty(numbers):
+        put("read", 2, 3, hex_word(data))
+        put("host", hex_word(data), chance.choice(["00", "80", "8000"]), chance.choice(["-", "a1b2c3"]))
+    for data in faulty(list_numbers([0, 127, 128, 299], 512, width)):
+        put("facts", width, hex_word(data))
+        put("host", "ac020000", hex_word(data), chance.choice(["-", "a1b2c3"]))
+
+
+def unlawful_lists(width):
+    """Lists of marks that are not lawful for the width, and two that are."""
+    top = width - 1
+    lists = [[width], [65535], [0, width], [1, 1], [1, 0], [0, 2, 1], [0, 1, 1], [top, 0]]
+    if width > 8:
+        lists += [range(9), range(255), range(8), range(width - 8, width)]
+    return lists
+
+
+def put_lines():
+    """Each way in which a line or bar breaks a law, in every call that takes lines or bars."""
+    for width in (5, 12, 512):
+        fares = [(width, [], []), (65535, [], []), (width - 1, [], [])]
+        terms = [(width, []), (65535, [0]), (width - 1, []), (None, [])]
+        for marks in unlawful_lists(width):
+            fares += [(0, marks, []), (0, [], marks), (width, marks, marks)]
+            terms += [(0, marks), (None, marks)]
+        for line in fares:
+            word = "0//1+" + fares_word([line])
+            put("write", width, 40, word, "-")
+            for method in (1, 2):
+                put("settle", method, word, "%d:" % width, "bare %d" % width)
+            put("sound", word, "%d:" % width, "%d:0" % width, "line %d -" % width)
+            put("list", width, 4, "e1;s1;s2;a1", word, "world %d %d:0,1,2" % (width, width))
+            put("sheets", width, width, "0s1;0bs1;0a0;0bs2;0c;1bs1;0bt%d:0;0t%d:0;0l" % (width, width),
+                "0//&" + word, "barred 0-1 bare %d" % width)
+        for line in terms:
+            word = "2/1+" + terms_word([line])
+            put("write", width, 40, "-", word)
+            put("make", "line %d %s" % (width, word))
+            put("close", "%d:0" % width, "barred 0-1 line %d %s" % (width, word))
+        for bar in ((0, 0), (1, 0), (0, width), (width, width + 1), (0, width - 1), (width - 1, width),
+                    (width - 2, width - 1), (width - 1, width - 2), (65535, 65535), (0, 65535)):
+            word = bars_word([(1, 2), bar])
+            put("make", "barred %s bare %d" % (word, width))
+            put("make", "barred %s barred 0-1 line %d 0/1" % (word, width))
+            put("make", "barred 0-1 barred %s world %d %d:0" % (word, width, width))
+            put("settle", 1, "-", "%d:0" % width, "barred %s bare %d" % (word, width))
+
+
+def put_counts():
+    """As many lines, worlds, bars and bytes as there may be, and one more, wherever they are counted."""
+    for often in (32, 33):
+        for bars in ("barred 0-1*%d " % often, "barred 0-1*%d barred 2-3 " % often,
+                     "barred 2-3 barred 0-1*%d " % often):
+            for ground in ("bare 4", "line 4 1/0", "world 4 4:0,2+4:0,1"):
+                put("make", bars + ground)
+                put("close", "4:0", bars + ground)
+                put("settle", chance.choice([1, 2]), "1//2+2//1", "4:0", bars + ground)
+    for often in (64, 65):
+        for bars in ("", "barred 0-1 ", "barred 2-3 barred - "):
+            put("close", "3:0", bars + "world 3 3:0,1*%d" % often if not bars else
+                bars + "world 4 4:0,2*%d" % often)
+            put("make", bars + "world 4 4:0*%d" % often)
+    for often in (512, 513):
+        for bars in ("", "barred 0-1 ", "barred 2-3 barred - "):
+            put("make", bars + "line 4 1/0*%d" % often)
+            put("sound", "-", "4:0", "4:0,1", bars + "line 4 1/0*%d" % often)
+    for often in (1024, 1025):
+        for book in ("bare 4", "line 4 1/0", "world 4 4:0,1,2", "barred 0-2 bare 4"):
+            put("settle", 1, "3//1*%d" % often, "4:0,1,2", book)
+            put("settle", 2, "3//1*%d" % often, "4:0,1,2", book)
+            put("sound", "3//1*%d" % often, "4:0", "4:0,1", book)
+            put("list", 4, 3, "e0;s1;s2", "3//1*%d" % often, book)
+            put("sheets", 4, 4, "0e0;0s1;0bs2;0a0;0bt4:0;1bs1", "1//&3//1*%d" % often, book)
+    for width in NO_WIDTHS:
+        for ground in ("bare %d", "line %d 9/*513", "world %d 4:*65"):
+            for bars in ("", "barred 2-1 ", "barred 0-1*33 barred - "):
+                put("make", bars + ground % width)
+    for width in (511, 512):
+        data = leb.encode(width) + b"\1\0" + leb.encode(width - 1) + b"\0\1\0"
+        for room in (0, width - 1, width, width + 1):
+            put("host", hex_word(data), "00", "aa" * room if room else "-")
+
+
+def shapes():
+    """A book of each ground with no, one and two layers of bars, of width 4, as words."""
+    for ground in ("bare", "line", "world"):
+        for layers in (0, 1, 2):
+            yield ground, layers
+
+
+def shaped(ground, layers):
+    """A random book of the shape, of width 4."""
+    book = {"bare": ("bare",), "line": ("line", some_terms(4, 4)),
+            "world": ("world", some_worlds(4) + [[0, 1, 2, 3]] * chance.randint(0, 1))}[ground]
+    for _ in range(layers):
+        book = ("barred", some_bars(4), book)
+    return book
+
+
+SHAPED = {"bare": ["bare 4"],
+          "line": ["line 4 1/0+!/1,2", "line 4 2/1+3/0,2+!/1,3"],
+          "world": ["world 4 4:0,1,2+4:0,1,3+4:2,3", "world 4 4:0,1,2,3+4:0,3+4:0,2"]}
+
+
+def put_shapes():
+    """Every kind of case with a book, over each ground and number of layers of bars: each answer and refusal."""
+    for ground, layers in shapes():
+        for below in SHAPED[ground]:
+            book = ["", "barred 0-3+1-2 ", "barred 0-3 barred 1-2 "][layers] + below
+            for number in range(16):
+                put("close", set_word(4, [mark for mark in range(4) if number >> mark & 1]), book)
+            for width in (1, 3, 5, 512):
+                put("close", "%d:0" % width, book)
+                put("settle", 1, "0//1", "%d:0" % width, book)
+                put("settle", 2, "4//1", "%d:0" % width, book)
+                put("sound", "0//1", "%d:0" % width, "4:0", book)
+                put("sound", "0//1", "4:", "%d:0" % width, book)
+                put("sound", "4//1", "%d:0" % width, "%d:0" % width, book)
+                put("list", width, 6, "e0;e0;x1;a0;s1;s2", "0//1", book)
+                put("list", width, 3, "s1;s2;a0", "0/1,1/", book)
+            for method in (1, 2):
+                put("settle", method, "0//1+0/1,0/", "4:", book)
+            put("sound", "0//1+4//", "4:", "4:0", book)
+            calls = "e0;e0;e4;x3;x4;a0;a4;s1;a0;a1;a2;a3;e0;x9;x2;a4;a0;s2;a1;x0;a1;a65535;s1;a0"
+            count = calls.count(";") + 1
+            for width, room in ((4, count), (4, count + 1), (4, count - 1), (0, count), (513, 0)):
+                put("list", width, room, calls, "2//1+1//2+3/0/1", book)
+            put("list", 4, count, calls, "2//1+1//2+3/0/4", book)
+            acts = "0a0;0a4;0c;0l;1l;0e1;0e1;0e4;0x0;0x9;0s1;0c;0a1;0l;1l;1e1;1s2;1c;0l;1l;0bs1;0a2;0bs2;" \
+                "0c;0bt4:1;0t4:1;0t3:1;0bt5:1;0t4:1,2;0e1;0x2;0a2;0l;1x1;0l;1c;1s1;0l;0x1;0s2;0l;1a3"
+            put("sheets", 4, 4, acts, "2//1+1//2+3/0/1&2//1+1//2+3/3,3/1", book)
+            put("sheets", 4, 4, acts, "2//1+1//2+3/0/1&2//1+1//3", book)
+            put("sheets", 4, 5, acts, "2//1+1//2+3/0/1&4//", book)
+            put("sheets", 3, 4, acts, "2//1+1//2+0/0/1&2//3", book)
+        for verdict in (readings.CLEAR, readings.SUSPECT, readings.BROKEN):
+            for tariff in searched(ground, layers, verdict, 6):
+                put_settles(tariff)
+                for tried in tariff.sound()[:2] + [tariff.facts, half(4)]:
+                    put_sound(tariff, tried)
+
+
+def held_back(ground, layers):
+    """A tariff over a book of the shape, with a head that is denied beside the fact, and held up by something open."""
+    fact, a, b, head = chance.sample(range(4), 4)
+    fares = some_fares(4, 1) + [(a, [], [b]), (b, [], [a]), (head, [], [a])]
+    terms = some_terms(4, 1)
+    worlds = [sorted(world) for world in ([fact], [fact, a], [fact, b], [fact, a, b], [a, b, head])]
+    if layers:
+        worlds.append([0, 1, 2, 3])
+    else:
+        terms.append((None, sorted([fact, head])))
+    book = {"bare": ("bare",), "line": ("line", terms), "world": ("world", worlds)}[ground]
+    for layer in range(layers):
+        bar = tuple(sorted((fact, head)))
+        book = ("barred", [bar] if layer == 0 else some_bars(4), book)
+    return Tariff(4, [fact], fares, book)
+
+
+def searched(ground, layers, verdict, most):
+    """Some tariffs over books of the shape with that verdict; none or fewer where some hundred tries find no more."""
+    found = []
+    for _ in range(0 if ground == "bare" and not layers and verdict != readings.CLEAR else 200):
+        if verdict == readings.SUSPECT:
+            tariff = held_back(ground, layers)
+        else:
+            tariff = Tariff(4, ascending(4, 2), some_fares(4, 5), shaped(ground, layers))
+        settled = tariff.settle()
+        if settled.verdict == verdict and (settled.rounds > 2 or likely(0.3)):
+            found.append(tariff)
+        if len(found) == most:
+            break
+    return found
+
+
+def put_widths():
+    """Every width there is, at its highest mark and one past it."""
+    for width in range(1, 513):
+        top = width - 1
+        put("facts", width, hex_word(facts_string([top + width % 2])))
+        head = leb.encode(top + (width + 1) % 2)
+        put("read", 1, 0, hex_word(leb.encode(width) + b"\1\0" + head + b"\0\0"))
+        fares = fares_word([(0, [], [top]), (top, [], [0])])
+        facts = [] if width % 3 else [top]
+        book = ["bare %d" % width, "line %d %d/0" % (width, top), "world %d %d:0+%s" % (
+            width, width, set_word(width, sorted({0, top}))), "barred - line %d 0/%d" % (width, top)][width % 4]
+        put("settle", 1 + width // 4 % 2, fares, set_word(width, facts), book)
+        put("list", width, 5, "e%d;e%d;s%d;a%d;a%d" % (top, width, 1 + width % 2, top, width), fares, book)
+
+
+def put_longest():
+    """As many rounds as there may be: width 1 has them; and the longest that some search found for others."""
+    for method in (1, 2):
+        put("settle", method, "0//0", "1:", "line 1 !/0")
+        put("settle", method, "0//0", "1:", "world 1 1:")
+        put("settle", method, "0//0", "1:", "barred - line 1 !/0")
+        for width in (2, 3, 4, 5, 9, 64, 65, 512):
+            last = width - 1
+            down = [(index + 1, [], [index]) for index in range(last)]
+            for book in (("bare",), ("line", [(None, [last])]), ("line", [(None, [last - 1])]),
+                         ("barred", [(0, last)], ("line", [(0, [last])]))):
+                tariff = Tariff(width, [], down, book)
+                put("settle", method, tariff.fares_word, tariff.facts_word, tariff.book_word)
+
+
 def main():
     if len(sys.argv) != 2:
         raise SystemExit("usage: generate.py SEED")
     chance.seed(sys.argv[1])
     for kind in (put_examples, put_numbers, put_facts, put_reads, put_writes, put_hosts, put_books,
                  put_nexts, put_closes, put_small, put_wide, put_chains, put_clashes, put_large,
-                 put_refused, put_lists, put_sheets):
+                 put_refused, put_lists, put_sheets, put_strings, put_places, put_lines, put_counts,
+                 put_shapes, put_widths, put_longest):
         kind()
     # each line once
     print("\n".join(dict.fromkeys(lines)))

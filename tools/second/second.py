@@ -50,13 +50,18 @@ def case_number(low, high, data):
     return "ok %d %d" % (value, reader.place)
 
 
-def case_spell(room, place, value):
+def written(room, write):
+    """What a call writes into so many bytes, and all of them."""
     out = bytearray([BEFORE] * int(room))
     try:
-        behind = leb.write_number(out, int(place), int(value))
+        behind = write(out)
     except Refused as refusal:
         return "refused %d %s" % (refusal.number, words.hex_text(out))
     return "ok %d %s" % (behind, words.hex_text(out))
+
+
+def case_spell(room, place, value):
+    return written(room, lambda out: leb.write_number(out, int(place), int(value)))
 
 
 def case_facts(width, data):
@@ -69,6 +74,11 @@ def case_facts(width, data):
                             words.hex_text(out[:length]))
 
 
+def case_string(room, given):
+    given = words.read_set(given)
+    return written(room, lambda out: leb.write_facts(given, out))
+
+
 def case_read(fare_room, term_room, data):
     data = words.read_hex(data)
     width, fares, terms = tariff_file.read_file(data, int(fare_room), int(term_room))
@@ -79,13 +89,8 @@ def case_read(fare_room, term_room, data):
 
 
 def case_write(width, room, fares, terms):
-    out = bytearray([BEFORE] * int(room))
-    try:
-        length = tariff_file.write_file(int(width), words.read_fares(fares),
-                                        words.read_terms(terms), out)
-    except Refused as refusal:
-        return "refused %d %s" % (refusal.number, words.hex_text(out))
-    return "ok %d %s" % (length, words.hex_text(out))
+    fares, terms = words.read_fares(fares), words.read_terms(terms)
+    return written(room, lambda out: tariff_file.write_file(int(width), fares, terms, out))
 
 
 def case_host(file, facts, out):
@@ -164,9 +169,13 @@ def case_list(width, records, calls, fares, *book):
     return replies_text([reply_text(kind, reply) for kind, reply in zip(kinds, replies)])
 
 
-def call_on_sheet(text, sheets, fares, book):
-    """Make one call of a sheets case and give its reply as text."""
-    which, kind, rest = int(text[0]), text[1], text[2:]
+def call_on_sheet(text, sheets, lists, book):
+    """Make one call of a sheets case, with one of the two lists of fare lines; give its reply as text."""
+    which, text = int(text[0]), text[1:]
+    fares = lists[0]
+    if text[0] == "b":
+        fares, text = lists[1], text[1:]
+    kind, rest = text[0], text[1:]
     sheet, other = sheets[which], sheets[1 - which]
     try:
         if kind == "c":
@@ -176,7 +185,7 @@ def call_on_sheet(text, sheets, fares, book):
         elif kind == "l":
             reply = sheet.alike(other)
         else:
-            reply = listed_call(text[1:]).perform(sheet, fares, book)
+            reply = listed_call(text).perform(sheet, fares, book)
     except Refused as refusal:
         reply = refusal
     return reply_text(kind, reply)
@@ -185,12 +194,13 @@ def call_on_sheet(text, sheets, fares, book):
 def case_sheets(width, other_width, calls, fares, *book):
     book = make_book(book)
     sheets = [Sheet(int(width)), Sheet(int(other_width))]
-    fares = words.read_fares(fares)
-    return replies_text(read_calls(calls, lambda text: call_on_sheet(text, sheets, fares, book)))
+    first, _, second = fares.partition("&")
+    lists = words.read_fares(first), words.read_fares(second or "-")
+    return replies_text(read_calls(calls, lambda text: call_on_sheet(text, sheets, lists, book)))
 
 
-CASES = {"number": case_number, "spell": case_spell, "facts": case_facts, "read": case_read,
-         "write": case_write, "host": case_host, "make": case_make, "next": case_next,
+CASES = {"number": case_number, "spell": case_spell, "facts": case_facts, "string": case_string,
+         "read": case_read, "write": case_write, "host": case_host, "make": case_make, "next": case_next,
          "close": case_close, "settle": case_settle, "sound": case_sound, "list": case_list,
          "sheets": case_sheets}
 

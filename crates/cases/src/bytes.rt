@@ -59,6 +59,13 @@ fn facts_back(heap: Global, facts: &MarkSet) -> Printed {
     }
 }
 
+pub(crate) fn string(heap: Global, room: &str, set: &str) -> Printed {
+    let set = words::set(set)?;
+    let mut out = vec![in heap; BLANK; words::amount(room)?]?;
+    let length = write_facts(&set, out.as_mut_slice());
+    written(heap, length, out.as_slice())
+}
+
 pub(crate) fn next(heap: Global, from: &str, set: &str) -> Printed {
     let set = words::set(set)?;
     let count = set.count();

@@ -47,20 +47,34 @@ impl Written for Step {
     }
 }
 
-// A call on the first or the second of two sheets.
+// One of two sheets, or of two lists of fare lines.
 #[derive(Clone, Copy)]
-pub(crate) enum Act {
-    First(Step),
-    Second(Step),
+enum Which {
+    First,
+    Second,
+}
+
+// A call on one of two sheets, with one of two lists of fare lines.
+#[derive(Clone, Copy)]
+pub(crate) struct Act {
+    sheet: Which,
+    fares: Which,
+    step: Step,
 }
 
 impl Written for Act {
     fn written(text: &str) -> anyhow::Result<Act> {
-        match text.split_at_checked(1) {
-            Some(("0", step)) => Ok(Act::First(<Step as Written>::written(step)?)),
-            Some(("1", step)) => Ok(Act::Second(<Step as Written>::written(step)?)),
-            _ => Err(anyhow!("a call on two sheets begins with 0 or 1")),
-        }
+        let (sheet, rest) = match text.split_at_checked(1) {
+            Some(("0", rest)) => (Which::First, rest),
+            Some(("1", rest)) => (Which::Second, rest),
+            _ => return Err(anyhow!("a call on two sheets begins with 0 or 1")),
+        };
+        let (fares, step) = match rest.split_at_checked(1) {
+            Some(("b", step)) => (Which::Second, step),
+            _ => (Which::First, rest),
+        };
+        let step = <Step as Written>::written(step)?;
+        Ok(Act { sheet, fares, step })
     }
 }
 
@@ -134,25 +148,32 @@ pub(crate) fn perform_acts<B: TermBook>(
     second: u16,
     acts: &[Act],
     fares: &[FareLine],
+    others: &[FareLine],
     book: &B,
 ) -> Printed {
-    let (mut first, mut second) = match two_sheets(first, second) {
-        Ok(sheets) => sheets,
+    let mut first = match Sheet::new(first) {
+        Ok(sheet) => sheet,
+        Err(refusal) => return refused(heap, refusal),
+    };
+    let mut second = match Sheet::new(second) {
+        Ok(sheet) => sheet,
         Err(refusal) => return refused(heap, refusal),
     };
     let told: Vec<Result<Told, Refusal>> = acts
         .iter()
-        .map(|act| match act {
-            Act::First(step) => take(&mut first, &second, *step, fares, book),
-            Act::Second(step) => take(&mut second, &first, *step, fares, book),
+        .map(|act| {
+            let fares = match act.fares {
+                Which::First => fares,
+                Which::Second => others,
+            };
+            match act.sheet {
+                Which::First => take(&mut first, &second, act.step, fares, book),
+                Which::Second => take(&mut second, &first, act.step, fares, book),
+            }
         })
         .collect(heap)?;
     let replies = Row(told.as_slice(), ";");
     Ok(format!(in heap; "ok {replies}")?)
-}
-
-fn two_sheets(first: u16, second: u16) -> Result<(Sheet, Sheet), Refusal> {
-    Ok((Sheet::new(first)?, Sheet::new(second)?))
 }
 
 // Takes one step on a sheet, beside the other one.

@@ -1,8 +1,6 @@
 // What a case does with its book.
-use crate::calls::{Act, calls_of, perform_acts, perform_calls};
-use crate::records::records;
+use crate::calls::{Act, perform_acts, perform_calls};
 use crate::show::{Marks, Printed, refused, yes_or_no};
-use crate::words;
 use books::book::TermBook;
 use lines::fare::FareLine;
 use marks::set::MarkSet;
@@ -35,71 +33,17 @@ pub(crate) enum Job {
         calls: Vec<Call>,
         fares: Vec<FareLine>,
     },
-    // calls one by one on two sheets of these widths
+    // calls one by one on two sheets of these widths, with either of two lists of fare lines
     Sheets {
         first: u16,
         second: u16,
         acts: Vec<Act>,
         fares: Vec<FareLine>,
+        others: Vec<FareLine>,
     },
 }
 
 impl Job {
-    pub(crate) fn close(set: &str) -> anyhow::Result<Job> {
-        Ok(Job::Close(words::set(set)?))
-    }
-
-    pub(crate) fn settle(
-        heap: Global,
-        method: &str,
-        fares: &str,
-        facts: &str,
-    ) -> anyhow::Result<Job> {
-        Ok(Job::Settle {
-            method: words::method(method)?,
-            fares: records::<FareLine>(heap, fares)?,
-            facts: words::set(facts)?,
-        })
-    }
-
-    pub(crate) fn sound(heap: Global, fares: &str, facts: &str, set: &str) -> anyhow::Result<Job> {
-        Ok(Job::Sound {
-            fares: records::<FareLine>(heap, fares)?,
-            facts: words::set(facts)?,
-            set: words::set(set)?,
-        })
-    }
-
-    pub(crate) fn list(
-        heap: Global,
-        width: &str,
-        room: &str,
-        calls: &str,
-        fares: &str,
-    ) -> anyhow::Result<Job> {
-        Ok(Job::List {
-            width: words::number(width)?,
-            room: words::amount(room)?,
-            calls: calls_of::<Call>(heap, calls)?,
-            fares: records::<FareLine>(heap, fares)?,
-        })
-    }
-
-    pub(crate) fn sheets(
-        heap: Global,
-        first: &str,
-        second: &str,
-        acts: &str,
-        fares: &str,
-    ) -> anyhow::Result<Job> {
-        Ok(Job::Sheets {
-            first: words::number(first)?,
-            second: words::number(second)?,
-            acts: calls_of::<Act>(heap, acts)?,
-            fares: records::<FareLine>(heap, fares)?,
-        })
-    }
-
     pub(crate) fn run<B: TermBook>(&self, heap: Global, book: &B) -> Printed {
         match self {
             Job::Make => Ok(String::from_str(heap, "ok")?),
@@ -128,12 +72,14 @@ impl Job {
                 second,
                 acts,
                 fares,
+                others,
             } => perform_acts(
                 heap,
                 *first,
                 *second,
                 acts.as_slice(),
                 fares.as_slice(),
+                others.as_slice(),
                 book,
             ),
         }

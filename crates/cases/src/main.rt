@@ -11,8 +11,12 @@ mod show;
 mod words;
 
 use anyhow::anyhow;
+use calls::{Act, calls_of};
 use case_book::on_book;
 use jobs::Job;
+use lines::fare::FareLine;
+use records::records;
+use sheet::call::Call;
 use show::Printed;
 use std::alloc::Global;
 use std::io::{BufRead, BufReader};
@@ -47,6 +51,7 @@ fn on_words(heap: Global, words: &[&str]) -> Printed {
         ["number", low, high, hex] => bytes::number(heap, low, high, hex),
         ["spell", room, place, value] => bytes::spell(heap, room, place, value),
         ["facts", width, hex] => bytes::facts(heap, width, hex),
+        ["string", room, set] => bytes::string(heap, room, set),
         ["read", fares, terms, hex] => files::read(heap, fares, terms, hex),
         ["write", width, room, fares, terms] => files::write(heap, width, room, fares, terms),
         ["host", file, facts, out] => files::host(heap, file, facts, out),
@@ -55,21 +60,51 @@ fn on_words(heap: Global, words: &[&str]) -> Printed {
     }
 }
 
-fn with_book(heap: Global, words: &[&str]) -> Printed {
-    match words {
+fn with_book(heap: Global, case: &[&str]) -> Printed {
+    match case {
         ["make", book @ ..] => on_book(heap, book, &Job::Make),
-        ["close", set, book @ ..] => on_book(heap, book, &Job::close(set)?),
+        ["close", set, book @ ..] => on_book(heap, book, &Job::Close(words::set(set)?)),
         ["settle", method, fares, facts, book @ ..] => {
-            on_book(heap, book, &Job::settle(heap, method, fares, facts)?)
+            let job = Job::Settle {
+                method: words::method(method)?,
+                fares: records::<FareLine>(heap, fares)?,
+                facts: words::set(facts)?,
+            };
+            on_book(heap, book, &job)
         }
         ["sound", fares, facts, set, book @ ..] => {
-            on_book(heap, book, &Job::sound(heap, fares, facts, set)?)
+            let job = Job::Sound {
+                fares: records::<FareLine>(heap, fares)?,
+                facts: words::set(facts)?,
+                set: words::set(set)?,
+            };
+            on_book(heap, book, &job)
         }
-        ["list", width, records, calls, fares, book @ ..] => {
-            on_book(heap, book, &Job::list(heap, width, records, calls, fares)?)
+        _ => with_calls(heap, case),
+    }
+}
+
+fn with_calls(heap: Global, case: &[&str]) -> Printed {
+    match case {
+        ["list", width, room, calls, fares, book @ ..] => {
+            let job = Job::List {
+                width: words::number(width)?,
+                room: words::amount(room)?,
+                calls: calls_of::<Call>(heap, calls)?,
+                fares: records::<FareLine>(heap, fares)?,
+            };
+            on_book(heap, book, &job)
         }
-        ["sheets", first, second, calls, fares, book @ ..] => {
-            on_book(heap, book, &Job::sheets(heap, first, second, calls, fares)?)
+        ["sheets", first, second, acts, lines, book @ ..] => {
+            let (fares, others) = lines.split_once('&').unwrap_or((lines, "-"));
+            let job = Job::Sheets {
+                first: words::number(first)?,
+                second: words::number(second)?,
+                acts: calls_of::<Act>(heap, acts)?,
+                fares: records::<FareLine>(heap, fares)?,
+                others: records::<FareLine>(heap, others)?,
+            };
+            on_book(heap, book, &job)
         }
         _ => Err(anyhow!("no such case")),
     }
