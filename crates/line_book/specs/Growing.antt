@@ -84,9 +84,6 @@ pub record OnTheWay (ls : List TermLine) (S X : Marks) : Type 0 where
   pub around : S ⊆ X
   pub under : (Z : Marks) → S ⊆ Z → HasHeads ls Z → X ⊆ Z
 
-pub at_start : (ls : List TermLine) (S : Marks) → OnTheWay ls S S
-at_start ls S = record { around = λ m t. t; under = λ Z sz zh. sz }
-
 module _ (w : ℕ) (ls : List TermLine) (S X : Marks) (way : OnTheWay ls S X) where
   abbrev vs : List View
   vs = map term_view ls

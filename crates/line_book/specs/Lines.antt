@@ -5,9 +5,9 @@ use Rattle.books.specs.Denials.{denying}
 use Rattle.lines.specs.declared.term.TermLine.{TermLine}
 use Rattle.lines.specs.Lawful.{LawfulTerm}
 use Rattle.lines.specs.Records.{term_head, term_conditions}
-use Rattle.marks.specs.Sets.{Marks}
+use Rattle.marks.specs.Sets.{Marks, among}
 use Rattle.readings.specs.Books.{Book}
-use Rattle.readings.specs.Computed.{listed, among, filled}
+use Rattle.readings.specs.Computed.{listed, filled}
 use Rattle.readings.specs.WellFounded.{bare}
 use Rattle.readings.specs.Rules.{Rule}
 

@@ -1,10 +1,11 @@
 -- Sets of marks as tests of numbers.
-use Rattle.std.proofs.Common.{◌≡◌, ℕ, ◌+◌, ◌<◌, ◌≤◌, List, length, get_or, take, ◌∙◌, Bool, true, false, not, ◌&&◌, ◌||◌, T, eqb, sym, refl, subst, arith, eqb→eq, ltb→lt, lt→ltb}
+use Rattle.std.proofs.Common.{◌≡◌, ℕ, ◌+◌, ◌<◌, ◌≤◌, List, [], ◌∷◌, length, get_or, take, ◌∙◌, Bool, true, false, not, ◌&&◌, ◌||◌, T, eqb, sym, refl, ap, subst, arith, eqb→eq, ltb→lt, lt→ltb}
 use mathlib.Core.Path.{fun_ext}
+use Rattle.std.specs.List.{list_any}
 use Rattle.std.proofs.lemmas.List.Folds.{list_any_more}
 use Rattle.std.proofs.Math.Bool.{or_comm}
 use Rattle.marks.specs.Joins.{joined}
-use Rattle.marks.specs.Sets.{Marks, ◌∈◌, ◌⊆◌, below, OfWidth, listed, with_mark, without_mark, ◌∪◌, ◌∩◌}
+use Rattle.marks.specs.Sets.{Marks, ◌∈◌, ◌⊆◌, below, OfWidth, among, with_mark, without_mark, ◌∪◌, ◌∩◌}
 
 -- a test that came out true, and one that cannot
 pub holds : {b : Bool} → b ≡ true → T b
@@ -73,14 +74,12 @@ joined_inside on none w S S' f g m = go (S m) (S' m) (f m) (g m)
     go false true f g t = g tt
     go false false f g t = absurd (fails none t)
 
--- a mark that is there already
-pub with_there : (S : Marks) (k : ℕ) → k ∈ S → with_mark S k ≡ S
-with_there S k h = fun_ext (λ m. go m (eqb m k) (eqb→eq m k))
-  where
-    go : (m : ℕ) (b : Bool) → (T b → m ≡ k) → (b || S m) ≡ S m
-    go m true e = sym (is_true (S m) (subst (λ (j : ℕ). j ∈ S) (sym (e tt)) h))
-    go m false e = refl
-
 -- one mark more of a list
-pub listed_more : (ms : List ℕ) (i : ℕ) → i < length ms → with_mark (listed (take i ms)) (get_or ms i 0) ≡ listed (take (i + 1) ms)
-listed_more ms i h = fun_ext (λ m. or_comm (eqb m (get_or ms i 0)) (listed (take i ms) m) ∙ sym (list_any_more (λ k. eqb m k) ms i 0 h))
+pub among_more : (ms : List ℕ) (i : ℕ) → i < length ms → with_mark (among (take i ms)) (get_or ms i 0) ≡ among (take (i + 1) ms)
+among_more ms i h = fun_ext (λ m.
+    or_comm (eqb m (get_or ms i 0)) (among (take i ms) m) ∙ ap (λ (b : Bool). b || eqb m (get_or ms i 0)) (any m (take i ms))
+    ∙ sym (list_any_more (λ k. eqb m k) ms i 0 h) ∙ sym (any m (take (i + 1) ms)))
+  where
+    any : (m : ℕ) (ms : List ℕ) → among ms m ≡ list_any (λ k. eqb m k) ms
+    any m [] = refl
+    any m (k ∷ ks) = ap (λ (b : Bool). eqb m k || b) (any m ks)

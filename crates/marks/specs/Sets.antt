@@ -1,7 +1,6 @@
 -- Sets of marks. A mark is a whole number that stands for one statement about a trip; a set says of each number whether it
 -- holds it. A width says how many marks are in use: those below it.
-use Rattle.std.specs.Prelude.{ℕ, zero, suc, ◌+◌, ◌<◌, ◌≤◌, Bool, false, cond, not, ◌&&◌, ◌||◌, T, Some, None, Option, ◌==◌, nat_lt, List}
-use Rattle.std.specs.List.{list_any}
+use Rattle.std.specs.Prelude.{ℕ, zero, suc, ◌+◌, ◌<◌, ◌≤◌, Bool, false, cond, not, ◌&&◌, ◌||◌, T, Some, None, Option, ◌==◌, nat_lt, List, [], ◌∷◌}
 
 infix 50 ◌∈◌ ◌⊆◌
 infixl 60 ◌∪◌ ◌∩◌ ◌∖◌
@@ -22,8 +21,9 @@ abbrev pub below : ℕ → Marks
 below w m = nat_lt m w
 
 -- the marks of a list
-abbrev pub listed : List ℕ → Marks
-listed ms m = list_any (λ k. m == k) ms
+abbrev pub among : List ℕ → Marks
+among [] m = false
+among (k ∷ ks) m = m == k || among ks m
 
 -- a set of the width w holds no mark at or above it
 abbrev pub OfWidth : ℕ → Marks → Type 0

@@ -1,14 +1,15 @@
 -- Facts are broken exactly when the book clashes at T: while it does not, T lies within U.
 use mathlib.Core.List.{List}
 use mathlib.Core.Logic.{◌↔◌, inl, inr}
-use mathlib.Core.Path.{sym, ◌∙◌}
+use mathlib.Core.Path.{◌≡◌, sym, ◌∙◌}
 use Prim.Native.Nat.{ℕ}
 use Rattle.marks.specs.Sets.{Marks, ◌⊆◌, below, no_marks, OfWidth}
-use Rattle.readings.specs.Books.{Book, Clashes}
+use Rattle.readings.specs.Books.{Book, Clashes, Closed}
 use Rattle.readings.specs.Rules.{Rule, Fit}
 use Rattle.readings.specs.Readings.{LeastReading}
 use Rattle.readings.specs.Methods.{Run, start, round, first_method}
 use Rattle.readings.specs.Says.{IsBroken}
+use Rattle.readings.specs.Theorems.{BrokenIsAClash}
 use Rattle.marks.proofs.Sets.{equal_within}
 use Rattle.readings.proofs.Sets.{with_old, within_or_lacks, decide}
 use Rattle.readings.proofs.Closing.{none_within, least_in}
@@ -37,6 +38,10 @@ module _ {B : Book} {lines : List Rule} {facts : Marks} (fit : Fit B lines facts
         | inr n ↦ absurd (b.1.1 (TWithinU (least_run fit p).1 n b.0 b.1.0))
       ]
 
+  -- a closed set at which the book clashes is all marks
+  all_at : {X : Marks} → OfWidth B.width X → Closed B X → Clashes B X → X ≡ below B.width
+  all_at {X} w closed c = sym closed ∙ fit.lawful.clash_gives_all X w c
+
   -- where the book clashes at T, T is all marks, and it denies every head there, so that U is the closure of nothing
   broken_if_clash : {T U : Marks} → LeastReading B lines facts T U → Clashes B T → IsBroken B T U
   broken_if_clash {T} {U} p c =
@@ -52,7 +57,7 @@ module _ {B : Book} {lines : List Rule} {facts : Marks} (fit : Fit B lines facts
       none_width = fit.lawful.of_width no_marks (none_within _)
 
       all : below B.width ⊆ T
-      all = equal_within (sym (fit.lawful.clash_gives_all T w c) ∙ p.reading.full.closed)
+      all = equal_within (sym (all_at w p.reading.full.closed c))
 
       UWithin : U ⊆ B.closure no_marks
       UWithin =
@@ -61,3 +66,15 @@ module _ {B : Book} {lines : List Rule} {facts : Marks} (fit : Fit B lines facts
 
   pub broken_is_clash : {T U : Marks} → LeastReading B lines facts T U → IsBroken B T U ↔ Clashes B T
   broken_is_clash p = (clash_if_broken p, broken_if_clash p)
+
+  everything_at : {X : Marks} → OfWidth B.width X → Closed B X → Clashes B no_marks → X ≡ below B.width
+  everything_at {X} w closed c = all_at w closed (fit.lawful.clash_grows no_marks X (none_within _) w (none_within X) c)
+
+  pub broken_is_a_clash : BrokenIsAClash B lines facts
+  broken_is_a_clash =
+      record {
+        exactly = λ T U p. broken_is_clash p;
+        all = λ T U p b. all_at p.reading.full.of_width p.reading.full.closed (clash_if_broken p b);
+        within = λ T U p n m t. elim (decide (U m)) [ inl h ↦ h | inr f ↦ absurd (n (inr (m, (t, f)))) ];
+        contradicting = λ T U p c. let y = p.reading in (everything_at y.full.of_width y.full.closed c, everything_at y.guarded.of_width y.guarded.closed c);
+      }

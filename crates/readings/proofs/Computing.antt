@@ -8,12 +8,12 @@ use Prim.Native.Nat.{ℕ, zero, suc, ◌+◌, ◌<◌, ◌≤◌}
 use native.Mathlib.Nat.{eq-or-lt_of_le, le_of_suc-le-suc, not-suc-le-zero}
 use native.Mathlib.Omega.{arith}
 use lib.Dec.{T, T_not, not_T}
-use Rattle.marks.specs.Sets.{Marks, ◌∈◌, below, no_marks, with_mark}
+use Rattle.marks.specs.Sets.{Marks, ◌∈◌, below, no_marks, with_mark, among}
 use Rattle.readings.specs.Books.{Book}
 use Rattle.readings.specs.Rules.{Rule, Counts, line, stands, fact, Fit}
 use Rattle.readings.specs.Yields.{Full, Guarded}
 use Rattle.readings.specs.Methods.{Run, start, round, FirstRound, first_method, Stops}
-use Rattle.readings.specs.Computed.{listed, among, agree, has_none, all_rules, full_of, guarded_of, settle_from, settled_of}
+use Rattle.readings.specs.Computed.{listed, agree, has_none, all_rules, full_of, guarded_of, settle_from, settled_of}
 use Rattle.marks.proofs.Sets.{equal_within}
 use Rattle.readings.proofs.Sets.{both, left, right}
 use Rattle.readings.proofs.Closing.{none_within, least_unique, least_by}

@@ -6,11 +6,11 @@ use mathlib.Core.Logic.{inl, inr}
 use mathlib.Core.Path.{◌≡◌, refl, subst, sym, ap, ◌∙◌}
 use Prim.Native.Nat.{ℕ, zero, suc}
 use lib.Dec.{T, eqb, eqb→eq, eqb_refl}
-use Rattle.marks.specs.Sets.{Marks, ◌∈◌, ◌⊆◌, below, OfWidth, ◌∪◌}
+use Rattle.marks.specs.Sets.{Marks, ◌∈◌, ◌⊆◌, below, OfWidth, ◌∪◌, among}
 use Rattle.readings.specs.Books.{Book, Lawful, Closed}
 use Rattle.readings.specs.Rules.{Rule, AllIn}
 use Rattle.readings.specs.Yields.{HasHeads, LeastClosed}
-use Rattle.readings.specs.Computed.{among, has_all, fired, filled}
+use Rattle.readings.specs.Computed.{has_all, fired, filled}
 use Rattle.marks.proofs.Sets.{equal_within}
 use Rattle.readings.proofs.Sets.{both, left, right, or_left, or_right, or_cases, join_within}
 use Rattle.readings.proofs.Sizes.{iterate, iterate_width, iterate_around, at_rest}

@@ -7,9 +7,9 @@ use mathlib.Core.Path.{◌≡◌, refl, subst, sym}
 use Prim.Native.Nat.{ℕ, zero, suc, ◌<◌}
 use native.Mathlib.Nat.{not-suc-le-zero, eq-or-lt_of_le, le_of_suc-le-suc}
 use lib.Dec.{T, eqb, eqb→eq, eqb_refl, ltb→lt, T_not, not_T}
-use Rattle.marks.specs.Sets.{Marks, ◌∈◌, ◌⊆◌, OfWidth}
+use Rattle.marks.specs.Sets.{Marks, ◌∈◌, ◌⊆◌, OfWidth, among}
 use Rattle.readings.specs.Rules.{AllIn, NoneIn, SomeIn}
-use Rattle.readings.specs.Computed.{keep, listed, among, same_bit, agree, has_all, has_none}
+use Rattle.readings.specs.Computed.{keep, listed, same_bit, agree, has_all, has_none}
 use Rattle.marks.proofs.Sets.{same_sets}
 use Rattle.readings.proofs.Sets.{both, left, right, or_left, or_right, or_cases, decide}
 

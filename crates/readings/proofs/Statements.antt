@@ -1,11 +1,11 @@
 -- The theorems that have several parts, put together from the lemmas.
 use mathlib.Core.List.{List}
 use mathlib.Core.Path.{subst₂, sym}
-use Rattle.marks.specs.Sets.{Marks, outside}
+use Rattle.marks.specs.Sets.{Marks, outside, among}
 use Rattle.readings.specs.Books.{Book}
 use Rattle.readings.specs.Rules.{Rule, Fit}
 use Rattle.readings.specs.Says.{the_verdict}
-use Rattle.readings.specs.Computed.{among, full_of, guarded_of}
+use Rattle.readings.specs.Computed.{full_of, guarded_of}
 use Rattle.readings.specs.Theorems.{YieldsExistOnce, YieldsFall, FirstMethodFindsIt, MethodsStop, MethodsAgree, AnswersAreSound, SaysOneThing, RelationsDecide, ComputedRight}
 use Rattle.marks.proofs.Sets.{equal_within}
 use Rattle.readings.proofs.Sets.{or_left}

@@ -3,13 +3,13 @@ use mathlib.Core.List.{List}
 use mathlib.Core.Path.{◌≡◌, subst, subst₂, sym, ap, ◌∙◌}
 use Prim.Native.Nat.{ℕ, suc, ◌+◌, ◌<◌, ◌≤◌}
 use native.Mathlib.Omega.{arith}
-use Rattle.marks.specs.Sets.{Marks, outside}
+use Rattle.marks.specs.Sets.{Marks, outside, among}
 use Rattle.readings.specs.Books.{Book}
 use Rattle.readings.specs.Rules.{Rule, Fit}
 use Rattle.readings.specs.Readings.{LeastReading}
 use Rattle.readings.specs.Methods.{Run, FirstRound, first_method, second_method, Stops}
 use Rattle.readings.specs.Says.{Rounds}
-use Rattle.readings.specs.Computed.{among, settled_of}
+use Rattle.readings.specs.Computed.{settled_of}
 use Rattle.readings.specs.ExactlyOne.{ExactlyOne}
 use Rattle.readings.specs.declared.method.Method.{Method}
 use Rattle.readings.specs.declared.method.Method.TheVariants.{First, Second}

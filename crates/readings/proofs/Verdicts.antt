@@ -5,13 +5,13 @@ use mathlib.Core.Logic.{◌⊎◌, inl, inr}
 use mathlib.Core.Path.{◌≡◌, refl, subst, sym, ◌∙◌}
 use Prim.Native.Nat.{ℕ}
 use lib.Dec.{T}
-use Rattle.marks.specs.Sets.{Marks, ◌∈◌}
+use Rattle.marks.specs.Sets.{Marks, ◌∈◌, among}
 use Rattle.readings.specs.Books.{Book, Clashes}
 use Rattle.readings.specs.Rules.{Rule, Fit}
 use Rattle.readings.specs.Yields.{Guarded}
 use Rattle.readings.specs.Readings.{LeastReading}
 use Rattle.readings.specs.Says.{the_answer, the_verdict, YieldsAgree, YieldsDiffer}
-use Rattle.readings.specs.Computed.{among, agree, full_of, guarded_of, verdict_by, verdict_of}
+use Rattle.readings.specs.Computed.{agree, full_of, guarded_of, verdict_by, verdict_of}
 use Rattle.readings.specs.ExactlyOne.{ExactlyOne}
 use Rattle.readings.specs.declared.answer.Answer.{Answer}
 use Rattle.readings.specs.declared.answer.Answer.TheVariants.{Not, Holds, Open, Both}

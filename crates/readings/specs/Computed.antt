@@ -1,7 +1,7 @@
 -- Yields, readings and verdicts as computations, and the tests of lists that they need. Worked sheets compute them, and so do
 -- meanings that have to be executable. That they compute what the definitions say is the theorem `ComputedRight` (Theorems).
 use Rattle.std.specs.Prelude.{Bool, true, false, not, ◌&&◌, ◌||◌, List, [], ◌∷◌, ◌++◌, map, ℕ, zero, suc, eqb}
-use Rattle.marks.specs.Sets.{Marks, below, with_mark, ◌∪◌}
+use Rattle.marks.specs.Sets.{Marks, below, among, with_mark, ◌∪◌}
 use Rattle.readings.specs.Books.{Book}
 use Rattle.readings.specs.Rules.{Rule, fact}
 use Rattle.readings.specs.declared.verdict.Verdict.{Verdict}
@@ -15,11 +15,6 @@ keep false m ms = ms
 abbrev pub listed : ℕ → Marks → List ℕ
 listed zero S = []
 listed (suc w) S = keep (S w) w (listed w S)
-
--- the set of the marks in the list
-abbrev pub among : List ℕ → Marks
-among [] m = false
-among (k ∷ ks) m = eqb m k || among ks m
 
 -- whether two sets have the same marks below w
 abbrev pub same_bit : Bool → Bool → Bool

@@ -1,7 +1,7 @@
 -- What is proved of readings. Each statement stands in the contract of a function of src/theorems.rt, so that its proof is asked
 -- for.
 use Rattle.std.specs.Prelude.{List, ◌↔◌, ◌≡◌, ℕ, ◌+◌, ◌≤◌}
-use Rattle.marks.specs.Sets.{Marks, ◌∈◌, ◌⊆◌, OfWidth, outside}
+use Rattle.marks.specs.Sets.{Marks, ◌∈◌, ◌⊆◌, no_marks, below, among, OfWidth, outside}
 use Rattle.readings.specs.ExactlyOne.{ExactlyOne}
 use Rattle.readings.specs.Books.{Book, Lawful, Clashes}
 use Rattle.readings.specs.Rules.{Rule, Fit}
@@ -10,7 +10,7 @@ use Rattle.readings.specs.Readings.{Reading, LeastReading, Sound}
 use Rattle.readings.specs.Methods.{Run, FirstRound, first_method, SecondRound, second_method}
 use Rattle.readings.specs.Says.{the_answer, the_verdict, Rounds}
 use Rattle.readings.specs.WellFounded.{bare, WellFoundedModel}
-use Rattle.readings.specs.Computed.{among, full_of, guarded_of, settled_of, verdict_of}
+use Rattle.readings.specs.Computed.{full_of, guarded_of, settled_of, verdict_of}
 use Rattle.readings.specs.declared.answer.Answer.{Answer}
 use Rattle.readings.specs.declared.answer.Answer.TheVariants.{Not, Holds}
 use Rattle.readings.specs.declared.verdict.Verdict.{Verdict}
@@ -81,9 +81,16 @@ module _ (B : Book) (lines : List Rule) (facts : Marks) where
     pub broken : (T U : Marks) → LeastReading B lines facts T U → (the_verdict Broken).says B lines facts T U
         → (M : Marks) → Sound B lines facts M → ⊥
 
-  -- Facts are broken exactly when the book clashes at the T of their least reading.
-  abbrev pub BrokenIsAClash : Type 0
-  BrokenIsAClash = (T U : Marks) → LeastReading B lines facts T U → (the_verdict Broken).says B lines facts T U ↔ Clashes B T
+  -- What is so where facts are broken, and where they are not.
+  pub record BrokenIsAClash : Type 0 where
+    -- they are broken exactly when the book clashes at the T of their least reading
+    pub exactly : (T U : Marks) → LeastReading B lines facts T U → (the_verdict Broken).says B lines facts T U ↔ Clashes B T
+    -- T is then all marks, so that each mark holds or is both
+    pub all : (T U : Marks) → LeastReading B lines facts T U → (the_verdict Broken).says B lines facts T U → T ≡ below B.width
+    -- and else T lies within U, so that no mark is both
+    pub within : (T U : Marks) → LeastReading B lines facts T U → ((the_verdict Broken).says B lines facts T U → ⊥) → T ⊆ U
+    -- where the book clashes at the empty set, every mark holds
+    pub contradicting : (T U : Marks) → LeastReading B lines facts T U → Clashes B no_marks → (T ≡ below B.width) × (U ≡ below B.width)
 
   -- A pair of sets gives exactly one answer of each mark, and the least reading exactly one verdict.
   pub record SaysOneThing : Type 0 where

@@ -44,7 +44,7 @@ pub fn answers_are_sound()
     ensures { Always AnswersAreSound }
 {}
 
-// Facts are broken exactly when the book clashes at T.
+// Facts are broken exactly when the book clashes at T. T is then all marks, and else it lies within U.
 pub fn broken_is_a_clash()
     ensures { Always BrokenIsAClash }
 {}

@@ -3,9 +3,9 @@ use Rattle.std.proofs.Common.{◌≡◌, ℕ, zero, suc, Bool, true, false, not,
 use mathlib.Core.List.Memᴰ
 use mathlib.Core.List.{Memᴰ}
 use lib.Dec.{not_T}
-use Rattle.marks.specs.Sets.{Marks, ◌∈◌, ◌⊆◌, below, OfWidth}
+use Rattle.marks.specs.Sets.{Marks, ◌∈◌, ◌⊆◌, below, OfWidth, among}
 use Rattle.readings.specs.Books.{Book}
-use Rattle.readings.specs.Computed.{keep, listed, among, agree, has_all, full_of}
+use Rattle.readings.specs.Computed.{keep, listed, agree, has_all, full_of}
 use Rattle.readings.specs.Readings.{LeastReading, Sound}
 use Rattle.readings.specs.Rules.{Rule, Fit}
 use Rattle.readings.specs.Yields.{Full}

@@ -7,9 +7,9 @@ use Rattle.lines.specs.Records.{term_head}
 use Rattle.line_book.specs.Lines.{line_book}
 use Rattle.line_book.specs.Growing.{line_lawful}
 use Rattle.line_book.specs.Seeing.{HeadsBelow}
-use Rattle.marks.specs.Sets.{below, OfWidth}
+use Rattle.marks.specs.Sets.{below, OfWidth, among}
 use Rattle.readings.specs.Books.{Lawful}
-use Rattle.readings.specs.Computed.{among, has_all}
+use Rattle.readings.specs.Computed.{has_all}
 use Rattle.readings.specs.Rules.{Rule, RuleWithin, Fit}
 use Rattle.readings.proofs.Listing.{in_among, has_all_in}
 use Rattle.readings.proofs.Sets.{left, right}

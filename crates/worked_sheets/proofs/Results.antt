@@ -2,9 +2,8 @@
 use Rattle.std.proofs.Common.{true, [], ◌∷◌, sym, refl, subst, inl, inr}
 use mathlib.Core.List.Memᴰ
 use Rattle.line_book.specs.Lines.{line_book}
-use Rattle.marks.specs.Sets.{no_marks, ◌∪◌}
+use Rattle.marks.specs.Sets.{no_marks, ◌∪◌, among}
 use Rattle.readings.specs.Books.{Lawful}
-use Rattle.readings.specs.Computed.{among}
 use Rattle.readings.specs.Rules.{Rule, line, stands, SomeIn}
 use Rattle.readings.specs.WellFounded.{Unfounded}
 use Rattle.readings.proofs.WellFounded.{bare_lawful}

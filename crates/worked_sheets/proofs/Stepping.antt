@@ -1,7 +1,7 @@
 -- The sets after each round, and the yields of one set, as they are computed.
 use Rattle.std.proofs.Common.{ℕ, suc, Bool, true, ◌&&◌, T, List, [], ◌∷◌, refl, subst}
-use Rattle.marks.specs.Sets.{Marks, below}
-use Rattle.readings.specs.Computed.{among, agree, has_all, full_of, guarded_of}
+use Rattle.marks.specs.Sets.{Marks, below, among}
+use Rattle.readings.specs.Computed.{agree, has_all, full_of, guarded_of}
 use Rattle.readings.specs.Methods.{Run, start, round, FirstRound, first_method}
 use Rattle.readings.specs.Rules.{Fit}
 use Rattle.readings.specs.Yields.{Full, Guarded}

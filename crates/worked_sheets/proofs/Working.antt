@@ -1,8 +1,8 @@
 -- A sheet comes out as its computed end says.
 use Rattle.std.proofs.Common.{◌≡◌, ℕ, suc, Bool, true, not, ◌&&◌, ◌||◌, T, List, [], ◌∷◌, length, subst, subst₂, T_not}
-use Rattle.marks.specs.Sets.{Marks, below}
+use Rattle.marks.specs.Sets.{Marks, below, among}
 use Rattle.readings.specs.Books.{Book, Lawful}
-use Rattle.readings.specs.Computed.{listed, among, agree, has_all, settled_of, verdict_of}
+use Rattle.readings.specs.Computed.{listed, agree, has_all, settled_of, verdict_of}
 use Rattle.readings.specs.Readings.{LeastReading}
 use Rattle.readings.specs.Rules.{Fit}
 use Rattle.readings.specs.Says.{the_answer, the_verdict, Rounds}

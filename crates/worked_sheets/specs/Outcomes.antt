@@ -1,9 +1,8 @@
 -- What it is for a sheet to come out in a given way, by the definitions of readings.
 use Rattle.std.specs.Prelude.{◌≡◌, ℕ, suc, Bool, List, [], ◌∷◌, length}
 use mathlib.Core.List.{Memᴰ}
-use Rattle.marks.specs.Sets.{Marks}
+use Rattle.marks.specs.Sets.{Marks, among}
 use Rattle.readings.specs.Books.{Book}
-use Rattle.readings.specs.Computed.{among}
 use Rattle.readings.specs.Methods.{Run}
 use Rattle.readings.specs.Readings.{LeastReading, Sound}
 use Rattle.readings.specs.Rules.{Fit}

@@ -1,9 +1,8 @@
 -- What is proved of the worked sheets of docs/EXAMPLES.md, by the definitions of readings and of books. The statement stands in
 -- the contract of a function, so that its proof is asked for.
 use Rattle.std.specs.Prelude.{true, false, [], ◌∷◌}
-use Rattle.marks.specs.Sets.{no_marks}
+use Rattle.marks.specs.Sets.{no_marks, among}
 use Rattle.readings.specs.Books.{Denied}
-use Rattle.readings.specs.Computed.{among}
 use Rattle.readings.specs.WellFounded.{Unfounded}
 use Rattle.worked_sheets.specs.Outcomes.{Worked, BookSays, YieldsAre}
 use Rattle.worked_sheets.specs.Denials as denials

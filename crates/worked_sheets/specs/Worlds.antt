@@ -1,7 +1,7 @@
 -- Worked sheets with the world book of the worlds {0, 1} and {0, 2}, without fare lines.
+use Rattle.marks.specs.Sets.{among}
 use Rattle.std.specs.Prelude.{[], ◌∷◌}
 use Rattle.readings.specs.Books.{Book}
-use Rattle.readings.specs.Computed.{among}
 use Rattle.readings.specs.declared.answer.Answer.TheVariants.{Not, Holds, Both}
 use Rattle.readings.specs.declared.verdict.Verdict.TheVariants.{Clear, Broken}
 use Rattle.world_book.specs.Worlds.{world_book}

@@ -4,7 +4,7 @@ ghost use Rattle.marks.specs.MarkSets.{marks_of, BadWidth, IsSet, Unchanged};
 ghost use Rattle.marks.specs.Joins.{joined, BitOp, Computes};
 ghost use Rattle.marks.specs.Overlaps.{Overlaps};
 ghost use Rattle.marks.specs.Refusals.{Refuses, Gives, Test};
-ghost use Rattle.marks.specs.Sets.{◌⊆◌, no_marks, below, listed, with_mark, without_mark, ◌∪◌, ◌∩◌, ◌∖◌, size, Next};
+ghost use Rattle.marks.specs.Sets.{◌⊆◌, no_marks, below, among, with_mark, without_mark, ◌∪◌, ◌∩◌, ◌∖◌, size, Next};
 
 use super::MarkSet;
 use super::words::{
@@ -29,7 +29,7 @@ impl MarkSet {
     // Puts the marks into a set that holds none.
     fn fill(&mut self, marks: &[u16]) -> Result<(), Refusal>
         requires { marks_of self.old ≡ no_marks }
-        ensures { Test (Any (λ m. self.old.width ≤ m) marks.now) (Refuses result 9) (Gives result (λ _. IsSet self.new self.old.width (listed marks.now))) }
+        ensures { Test (Any (λ m. self.old.width ≤ m) marks.now) (Refuses result 9) (Gives result (λ _. IsSet self.new self.old.width (among marks.now))) }
     {
         for m in marks {
             self.insert(*m)?;
@@ -61,7 +61,7 @@ impl MarkSet {
 
     // The set of these marks, in any order and as often as they come.
     pub fn of(width: u16, marks: &[u16]) -> Result<MarkSet, Refusal>
-        ensures { Test (BadWidth width) (Refuses result 7) (Test (Any (λ m. width ≤ m) marks.now) (Refuses result 9) (Gives result (λ s. IsSet s width (listed marks.now)))) }
+        ensures { Test (BadWidth width) (Refuses result 7) (Test (Any (λ m. width ≤ m) marks.now) (Refuses result 9) (Gives result (λ s. IsSet s width (among marks.now)))) }
     {
         let mut set = MarkSet::empty(width)?;
         set.fill(marks)?;

@@ -1,8 +1,8 @@
 use Rattle.std.proofs.Common.{rules, ◌≤◌, length, get_or, inr, ap, ◌∙◌, take_all, arith}
 use Rattle.std.proofs.lemmas.List.{get_or_default}
 use Rattle.marks.specs.MarkSets.{marks_of, IsSet}
-use Rattle.marks.specs.Sets.{listed, with_mark}
-use Rattle.marks.proofs.Sets.{listed_more}
+use Rattle.marks.specs.Sets.{among, with_mark}
+use Rattle.marks.proofs.Sets.{among_more}
 use Rattle.marks.proofs.set.MarkSet.fill.Goals as goal
 
 pub loop-m-preserved : goal.loop-m-preserved
@@ -14,7 +14,7 @@ loop-m-preserved c =
     record {
       is_set = record {
         width = more.width ∙ so_far.width;
-        marks = more.marks ∙ ap (λ X. with_mark X (get_or ms i 0)) so_far.marks ∙ listed_more ms i c.loop-m-test.true;
+        marks = more.marks ∙ ap (λ X. with_mark X (get_or ms i 0)) so_far.marks ∙ among_more ms i c.loop-m-test.true;
       };
       lie_below = search rules;
     }
@@ -26,5 +26,5 @@ returns c =
     let all : length ms ≤ c.loop-m.m-index = omega arith in
     inr (
       (λ (k, m, h, at, high). let e = get_or_default ms k m 0 h in let low = c.loop-m.invariant.lie_below k (omega arith) in omega arith),
-      record { width = all_in.width; marks = all_in.marks ∙ ap listed (take_all c.loop-m.m-index ms all) },
+      record { width = all_in.width; marks = all_in.marks ∙ ap among (take_all c.loop-m.m-index ms all) },
     )
