@@ -81,12 +81,6 @@ module _ (B : Book) (lines : List FareLine) where
       }
 
   module _ (law : Lawful B) (h : History) (s : Sheet) (f : Fits h s) (s' : Sheet) where
-    -- what a step owes
-    record Stepped (c : Call) (r : Result Reply Refusal) : Type 0 where
-      width : s'.facts.width ≡ s.facts.width
-      right : ReplyRight B lines s.facts.width h c r
-      fits : Fits (event c r ∷ h) s'
-
     -- an event that alters nothing, with the sheet as it was
     kept_fits : (c : Call) (r : Result Reply Refusal) → (Alters (event c r) → ⊥) → SameSheet s s' → Fits (event c r ∷ h) s'
     kept_fits c r none e =

@@ -13,7 +13,7 @@ use Rattle.readings.proofs.Sizes.{size_grows, same_or_more}
 use Rattle.settling.proofs.Rounding.{GoingWay}
 
 -- two sets of which one grew or the other shrank
-pub moved : (w : ℕ) (T U T' U' : Marks) → OfWidth w T' → OfWidth w U → T ⊆ T' → U' ⊆ U → (T' ≡ T → U' ≡ U → ⊥) → size w U' + (w - size w T') < size w U + (w - size w T)
+moved : (w : ℕ) (T U T' U' : Marks) → OfWidth w T' → OfWidth w U → T ⊆ T' → U' ⊆ U → (T' ≡ T → U' ≡ U → ⊥) → size w U' + (w - size w T') < size w U + (w - size w T)
 moved w T U T' U' tw uw t u differ =
     let a = size_grows w T T' t in
     let b = size_grows w U' U u in

@@ -27,13 +27,13 @@ fact_let_in lines facts E D R m t =
     }
 
 module _ (lines : List Rule) (facts E D R : Marks) (Z : Marks) where
-  pub heads_of_lines : HasHeads (LetIn lines facts E D R) Z → HasHeads (LineLetIn lines E D R) Z
+  heads_of_lines : HasHeads (LetIn lines facts E D R) Z → HasHeads (LineLetIn lines E D R) Z
   heads_of_lines has r p = has r (record { counts = line p.line; admitted = p.admitted })
 
-  pub heads_of_facts : HasHeads (LetIn lines facts E D R) Z → facts ∖ D ⊆ Z
+  heads_of_facts : HasHeads (LetIn lines facts E D R) Z → facts ∖ D ⊆ Z
   heads_of_facts has m t = has (fact m) (fact_let_in lines facts E D R m t) (λ k i. absurd (Memᴰ.not-nil i))
 
-  pub heads_of_both : facts ∖ D ⊆ Z → HasHeads (LineLetIn lines E D R) Z → HasHeads (LetIn lines facts E D R) Z
+  heads_of_both : facts ∖ D ⊆ Z → HasHeads (LineLetIn lines E D R) Z → HasHeads (LetIn lines facts E D R) Z
   heads_of_both f has r p = go r p.counts p.admitted
     where
       go : (r : Rule) → Counts lines facts r → IsAdmitted E D R r → AllIn r.conditions Z → r.head ∈ Z

@@ -3,6 +3,7 @@ ghost use Rattle.std.specs.Prelude.{◌≡◌, Decides};
 ghost use Rattle.marks.specs.MarkSets.{marks_of};
 ghost use Rattle.marks.specs.Refusals.{Gives};
 ghost use Rattle.readings.specs.Says.{the_verdict, IsBroken};
+ghost use Rattle.readings.specs.Yields.{Guarded};
 ghost use Rattle.settling.specs.Growth.{rules_of};
 
 use crate::trip::Trip;
@@ -34,17 +35,18 @@ fn broken<B: TermBook>(book: &B, reading: &Reading) -> Result<bool, Refusal>
 }
 
 impl<B: TermBook> Trip<'_, B> {
-    // The verdict that the rules give on T and U: broken, else suspect where the two yields of T differ, else clear.
+    // The verdict that the rules give on T and U: broken, else suspect where the two yields of T differ, else clear. The guarded
+    // one is U.
     pub(crate) fn judge(&self, reading: &Reading) -> Result<Verdict, Refusal>
-        requires { reading.now.lower.width ≡ (B.TermBook.book self.now.book.now).width }
+        requires width { reading.now.lower.width ≡ (B.TermBook.book self.now.book.now).width }
+        requires guarded { Guarded (B.TermBook.book self.now.book.now) (rules_of self.now.lines.now) (marks_of self.now.facts.now) (marks_of reading.now.lower) (marks_of reading.now.upper) }
         ensures { Gives result (λ v. (the_verdict v).says (B.TermBook.book self.now.book.now) (rules_of self.now.lines.now) (marks_of self.now.facts.now) (marks_of reading.now.lower) (marks_of reading.now.upper)) }
     {
         if broken(self.book, reading)? {
             return Ok(Verdict::Broken);
         }
         let full = self.full_of(&reading.lower)?;
-        let guarded = self.guarded_of(&reading.lower)?;
-        if full.same_marks(&guarded)? {
+        if full.same_marks(&reading.upper)? {
             Ok(Verdict::Clear)
         } else {
             Ok(Verdict::Suspect)
