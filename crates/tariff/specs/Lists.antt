@@ -13,6 +13,10 @@ abbrev pub least_behind : ℕ → List ℕ → ℕ
 least_behind least [] = least
 least_behind least (m ∷ ms) = least_behind (m + 1) ms
 
+-- a mark below the width, not below least
+abbrev pub mark_at : ℕ → List ℕ → ℕ → ℕ → Result (ℕ × ℕ) NumberFault
+mark_at w bs least p = number_at 0 (w - 1) least bs p
+
 -- k marks below the width, the first of them not below least and each above the one before
 abbrev pub marks_at : ℕ → List ℕ → ℕ → ℕ → ℕ → Result (List ℕ × ℕ) NumberFault
-marks_at w bs = many (λ least p. number_at 0 (w - 1) least bs p) (λ m _. m + 1)
+marks_at w bs = many (mark_at w bs) (λ m _. m + 1)

@@ -6,7 +6,7 @@ use Rattle.lines.specs.declared.list.MarkList.{MarkList}
 use Rattle.lines.specs.Records.{used}
 use Rattle.tariff.specs.declared.fault.NumberFault.{NumberFault}
 use Rattle.tariff.specs.Faults.{Within, Fails, NumberAnswer}
-use Rattle.tariff.specs.Lists.{marks_at, Ascending, least_behind}
+use Rattle.tariff.specs.Lists.{mark_at, marks_at, Ascending, least_behind}
 use Rattle.tariff.specs.Numbers.{Bytes, encode}
 use Rattle.tariff.specs.Readings.{mapped, fault, number_at}
 use Rattle.tariff.proofs.Answering.{right_answer, only_answer}
@@ -87,7 +87,7 @@ module _ (bs : List ℕ) (bytes : Bytes bs) where
 
     marks_exact : (k : ℕ) → Exact bs (marks_at w bs k 0) (flat_map encode) (marks_ok k) (MarksStop w k)
     marks_exact k =
-        each_exact bs (λ least p. number_at 0 (w - 1) least bs p) (λ m _. m + 1) encode (λ least m. Within 0 (w - 1) m × (least ≤ m)) (λ least. Starts (record { low = 0; high = w - 1; least = least })) (λ least. number_exact 0 (w - 1) least (omega arith))
+        each_exact bs (mark_at w bs) (λ m _. m + 1) encode (λ least m. Within 0 (w - 1) m × (least ≤ m)) (λ least. Starts (record { low = 0; high = w - 1; least = least })) (λ least. number_exact 0 (w - 1) least (omega arith))
         (Ascending w) least_behind (λ _. tt) (λ least m ms h rest. let low = h.0.1 in (h.1, omega arith, rest)) (λ least m ms h. let low = h.1 in (((omega arith, omega arith), h.0), h.2)) (λ _. refl) (λ _ _ _. refl) k 0
 
     -- the marks of a list of which the count is k

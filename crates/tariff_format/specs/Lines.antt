@@ -47,4 +47,4 @@ term_line_at w bs i p = in_line (record { section = Term; index = i }) (term_at 
 
 -- n lines, the first of them with the index i, by what stands at a place as the line of an index
 abbrev pub lines_at : {L : Type 0} → (ℕ → ℕ → Result (L × ℕ) LineFault) → ℕ → ℕ → ℕ → Result (List L × ℕ) LineFault
-lines_at line_at_lem n i p = many line_at_lem (λ _ j. j + 1) n i p
+lines_at read_line n i p = many read_line (λ _ j. j + 1) n i p

@@ -25,18 +25,18 @@ length_many {A} {E} read next (suc n) s p = first (read s p) (λ x q. length_man
     first (Ok x) h = more x.0 (many read next n (next x.0 s) x.1) (h x.0 x.1)
     first (Err e) h = tt
 
-reads : {L E : Type 0} (line_at_lem : ℕ → ℕ → Result (L × ℕ) E) (n i p q : ℕ) → mapped (λ _. tt {0}) (many line_at_lem (λ _ j. j + 1) n i p) ≡ Ok (tt, q) → Reads (many line_at_lem (λ _ j. j + 1) n i p) n q
-reads line_at_lem n i p q h =
-    let e = ends (many line_at_lem (λ _ j. j + 1) n i p) q h in
-    record { lines = e.0; count = subst (Counted n) e.1 (length_many line_at_lem (λ _ j. j + 1) n i p); value = e.1 }
+reads : {L E : Type 0} (read_line : ℕ → ℕ → Result (L × ℕ) E) (n i p q : ℕ) → mapped (λ _. tt {0}) (many read_line (λ _ j. j + 1) n i p) ≡ Ok (tt, q) → Reads (many read_line (λ _ j. j + 1) n i p) n q
+reads read_line n i p q h =
+    let e = ends (many read_line (λ _ j. j + 1) n i p) q h in
+    record { lines = e.0; count = subst (Counted n) e.1 (length_many read_line (λ _ j. j + 1) n i p); value = e.1 }
 
 pub loop-index-preserved : goal.loop-index-preserved
 loop-index-preserved g c =
-    let line_at_lem = g.L.Line.reading c.args.width in
+    let read_line = g.L.Line.reading c.args.width in
     let here = c.in_ok-read.ensures in
     let inv = c.loop-index.invariant in
-    let found = here.value ∙ ap (λ t. line_at_lem t c.loop-index.index c.loop-index.reader.place) inv.0 in
-    (here.same ∙ inv.0, inv.1 ∙ many_more (λ _. tt {0}) (line_at_lem (text c.args.reader.now)) (λ _ i. i + 1) c.args.count c.loop-index.index c.loop-index.index c.loop-index.reader.place c.in_ok-read.field-0 c.read.new.reader.place (omega arith) found)
+    let found = here.value ∙ ap (λ t. read_line t c.loop-index.index c.loop-index.reader.place) inv.0 in
+    (here.same ∙ inv.0, inv.1 ∙ many_more (λ _. tt {0}) (read_line (text c.args.reader.now)) (λ _ i. i + 1) c.args.count c.loop-index.index c.loop-index.index c.loop-index.reader.place c.in_ok-read.field-0 c.read.new.reader.place (omega arith) found)
 
 pub returns-clause-value : goal.returns-clause-value
 returns-clause-value g c =
