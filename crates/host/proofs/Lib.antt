@@ -1,3 +1,4 @@
 pub mod Loading
 pub mod Outcomes
 pub mod Deciding
+pub mod Listing
