@@ -14,6 +14,13 @@ struct Index {
     waiting: Vec<Vec<u32>>,
 }
 
+struct Lines {
+    width: usize,
+    fares: Vec<Rule>,
+    terms: Vec<Rule>,
+    denials: Vec<Rule>,
+}
+
 struct Tariff {
     width: usize,
     fares: Vec<Rule>,
@@ -95,7 +102,7 @@ impl Bytes<'_> {
     }
 }
 
-fn read(file: &[u8]) -> Result<Tariff, u32> {
+fn read(file: &[u8]) -> Result<Lines, u32> {
     let mut b = Bytes { bytes: file, at: 0 };
     let width = b.number(1, 512)? as u32;
     let fare_count = b.number(0, 1024)?;
@@ -118,12 +125,18 @@ fn read(file: &[u8]) -> Result<Tariff, u32> {
         }
     }
     b.end()?;
-    let width = width as usize;
-    let (fare_index, term_index, denial_index) = (index(&fares, width), index(&terms, width), index(&denials, width));
-    Ok(Tariff { width, fares, terms, denials, fare_index, term_index, denial_index })
+    Ok(Lines { width: width as usize, fares, terms, denials })
 }
 
 // ---- settling ----
+
+impl Tariff {
+    fn of(lines: Lines) -> Tariff {
+        let Lines { width, fares, terms, denials } = lines;
+        let (fare_index, term_index, denial_index) = (index(&fares, width), index(&terms, width), index(&denials, width));
+        Tariff { width, fares, terms, denials, fare_index, term_index, denial_index }
+    }
+}
 
 /// A set that grows: what is in it, what still waits to be looked at, and how many conditions each rule still wants.
 struct Growth<'a> {
@@ -276,16 +289,18 @@ fn settle(t: &Tariff, facts: &Marks) -> (Marks, Marks, u32) {
 }
 
 fn answer(file: &[u8], facts: &[u8], out: &mut [u8]) -> Result<u32, u32> {
-    let t = read(file)?;
+    let lines = read(file)?;
     let mut b = Bytes { bytes: facts, at: 0 };
     let mut set = [0; 8];
-    for m in b.list(512, t.width as u32)? {
+    for m in b.list(512, lines.width as u32)? {
         put(&mut set, m);
     }
     b.end()?;
-    if out.len() < t.width {
+    if out.len() < lines.width {
         return Err(13);
     }
+    // reading alone makes no index: it is needed for settling only
+    let t = Tariff::of(lines);
     let (lower, upper, verdict) = settle(&t, &set);
     for m in 0..t.width {
         out[m] = match (has(&lower, m as u16), has(&upper, m as u16)) {
