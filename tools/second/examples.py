@@ -35,6 +35,7 @@ next 1 5:0,3 => 2 3
 close 3:1,2 world 3 3:0,1+3:0,2 => ok 0,1,2 yes
 settle 1 1/3/2+4/3/1 5:0,3 line 5 2/0+!/1,2 => ok clear 3 0,2,3,4 0,2,3,4
 sound 0//1+1//0 2: 2:0 bare 2 => yes
+founded 1//0+3/2/+2/3/+4/0/1 5:0 => ok 0,4 1,2,3
 list 5 8 e3;s1;a1;e3;x9;e0;s2;a1 1/3/2+4/3/1 line 5 2/0+!/1,2 => ok done;clear/3;holds;r10;r9;done;clear/3;not
 list 5 1 e3;s1 - bare 5 => refused 13
 sheets 5 5 0e0;0e3;0s1;0c;0t5:0,2,3,4;1s1;0l 1/3/2+4/3/1 line 5 2/0+!/1,2 => ok done;done;clear/3;4/1/0/0;yes;clear/2;no

@@ -1182,6 +1182,36 @@ def put_longest():
                 put("settle", method, tariff.fares_word, tariff.facts_word, tariff.book_word)
 
 
+def put_founded():
+    """Well-founded models: small tariffs by chance, long chains, many lines, and each way to be unlawful."""
+    for _ in range(160):
+        width = chance.randint(1, 8)
+        put("founded", fares_word(some_fares(width, 2 * width)), set_word(width, ascending(width, 2)))
+    for _ in range(40):
+        tariff = slow_tariff(chance.randint(2, 20))
+        put("founded", tariff.fares_word, tariff.facts_word)
+    for width in EDGES:
+        last = width - 1
+        put("founded", "-", "%d:" % width)
+        put("founded", "-", set_word(width, range(width)))
+        if width < 100:
+            # definitions as they stand are slow on longer ones
+            put("founded", fares_word([(index + 1, [], [index]) for index in range(last)]), "%d:" % width)
+            put("founded", fares_word([(index + 1, [index], []) for index in range(last)][::-1]
+                                      + [(0, [last], [])]), "%d:%d" % (width, last))
+        for line in ((width, [], []), (0, [width], []), (0, [], [0, width]), (0, [0, 0], []), (last, [], [])):
+            put("founded", fares_word([(0, [], []), line]), "%d:" % width)
+    for width in (12, 512):
+        for marks in unlawful_lists(width):
+            put("founded", fares_word([(0, marks, [])]), "%d:" % width)
+            put("founded", fares_word([(0, [], marks)]), "%d:1" % width)
+        fares = [(chance.randrange(width), ascending(width, 2), ascending(width, 2)) for _ in range(1024)]
+        put("founded", fares_word(fares), "%d:" % width)
+        put("founded", fares_word(fares + fares[:1]), "%d:" % width)
+    for often in (1024, 1025):
+        put("founded", "3//1*%d" % often, "512:" + marks_word(range(512)))
+
+
 def main():
     if len(sys.argv) != 2:
         raise SystemExit("usage: generate.py SEED")
@@ -1189,7 +1219,7 @@ def main():
     for kind in (put_examples, put_numbers, put_facts, put_reads, put_writes, put_hosts, put_books,
                  put_nexts, put_closes, put_small, put_wide, put_chains, put_clashes, put_large,
                  put_refused, put_lists, put_sheets, put_strings, put_places, put_lines, put_counts,
-                 put_shapes, put_widths, put_longest):
+                 put_shapes, put_widths, put_longest, put_founded):
         kind()
     # each line once
     print("\n".join(dict.fromkeys(lines)))

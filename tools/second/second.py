@@ -5,6 +5,7 @@ import sys
 import leb
 import readings
 import tariff_file
+import wellfounded
 import words
 from host import fare_settle
 from marks import MarkSet
@@ -130,6 +131,11 @@ def case_sound(fares, facts, tried, *book):
                                     words.read_set(tried)))
 
 
+def case_founded(fares, facts):
+    t, f = wellfounded.well_founded(words.read_set(facts), words.read_fares(fares))
+    return "ok %s %s" % (words.marks_text(t), words.marks_text(f))
+
+
 LISTED = {"e": Enter, "x": Strike, "s": Settle, "a": Ask}
 
 
@@ -201,8 +207,8 @@ def case_sheets(width, other_width, calls, fares, *book):
 
 CASES = {"number": case_number, "spell": case_spell, "facts": case_facts, "string": case_string,
          "read": case_read, "write": case_write, "host": case_host, "make": case_make, "next": case_next,
-         "close": case_close, "settle": case_settle, "sound": case_sound, "list": case_list,
-         "sheets": case_sheets}
+         "close": case_close, "settle": case_settle, "sound": case_sound,
+         "founded": case_founded, "list": case_list, "sheets": case_sheets}
 
 
 def run_case(line):

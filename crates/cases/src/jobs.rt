@@ -1,11 +1,14 @@
-// What a case does with its book.
+// What a case does with its book, or with lines and facts alone.
 use crate::calls::{Act, perform_acts, perform_calls};
+use crate::records::records;
 use crate::show::{Marks, Printed, refused, yes_or_no};
+use crate::words;
 use books::book::TermBook;
 use lines::fare::FareLine;
 use marks::set::MarkSet;
 use readings::method::Method;
 use readings::reading::Reading;
+use settling::founded::{Model, well_founded};
 use settling::settle::settle;
 use settling::sound::is_sound;
 use sheet::call::Call;
@@ -127,5 +130,18 @@ fn try_set<B: TermBook>(
     match is_sound(fares, book, facts, set) {
         Err(refusal) => refused(heap, refusal),
         Ok(sound) => Ok(String::from_str(heap, yes_or_no(sound))?),
+    }
+}
+
+// The well-founded model, without a book.
+pub(crate) fn founded(heap: Global, fares: &str, facts: &str) -> Printed {
+    let fares = records::<FareLine>(heap, fares)?;
+    match well_founded(fares.as_slice(), &words::set(facts)?) {
+        Err(refusal) => refused(heap, refusal),
+        Ok(Model { holds, fails }) => {
+            let holds = Marks(&holds);
+            let fails = Marks(&fails);
+            Ok(format!(in heap; "ok {holds} {fails}")?)
+        }
     }
 }

@@ -56,6 +56,7 @@ fn on_words(heap: Global, words: &[&str]) -> Printed {
         ["write", width, room, fares, terms] => files::write(heap, width, room, fares, terms),
         ["host", file, facts, out] => files::host(heap, file, facts, out),
         ["next", from, set] => bytes::next(heap, from, set),
+        ["founded", fares, facts] => jobs::founded(heap, fares, facts),
         _ => with_book(heap, words),
     }
 }

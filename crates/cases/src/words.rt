@@ -25,17 +25,13 @@ pub(crate) fn method(text: &str) -> anyhow::Result<Method> {
     }
 }
 
-fn is_digit(b: u8) -> bool {
-    matches!(b, b'0'..=b'9' | b'a'..=b'f')
-}
-
 // The bytes that HEX spells, in lower case.
 pub(crate) fn bytes(heap: Global, hex: &str) -> anyhow::Result<Vec<u8>> {
     let digits = if hex == "-" { "" } else { hex };
-    let (pairs, _) = digits.as_bytes().as_chunks::<2>();
-    if !pairs
+    if !digits
+        .as_bytes()
         .iter()
-        .all(|[high, low]| is_digit(*high) && is_digit(*low))
+        .all(|b| matches!(*b, b'0'..=b'9' | b'a'..=b'f'))
     {
         return Err(anyhow!("no hexadecimal digit"));
     }
