@@ -280,7 +280,7 @@ fn settle(t: &Tariff, facts: &Marks) -> (Marks, Marks, u32) {
     let broken = clashes_with(t, &none, None) || lower.iter().zip(&upper).any(|(a, b)| a & !b != 0);
     let verdict = if broken {
         2
-    } else if yield_of(t, facts, &lower, &none) != guarded(t, facts, &lower) {
+    } else if yield_of(t, facts, &lower, &none) != upper {
         1
     } else {
         0

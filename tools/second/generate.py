@@ -1182,6 +1182,16 @@ def put_longest():
                 put("settle", method, tariff.fares_word, tariff.facts_word, tariff.book_word)
 
 
+def put_alike():
+    """Two sheets that differ in one mark's answer alone."""
+    for width in EDGES:
+        for mark in sorted({0, width // 2, width - 1}):
+            put("sheets", width, width, "0e%d;0s1;1s2;0l;1l;1e%d;1s1;0l;0x%d;0s2;1l" % (mark, mark, mark), "-",
+                "bare %d" % width)
+            put("sheets", width, width, "0s1;1bs2;0l;1l;0bs1;1l;1s1;0l", "-&%d//%d" % (mark, mark),
+                "line %d -" % width)
+
+
 def put_founded():
     """Well-founded models: small tariffs by chance, long chains, many lines, and each way to be unlawful."""
     for _ in range(160):
@@ -1219,7 +1229,7 @@ def main():
     for kind in (put_examples, put_numbers, put_facts, put_reads, put_writes, put_hosts, put_books,
                  put_nexts, put_closes, put_small, put_wide, put_chains, put_clashes, put_large,
                  put_refused, put_lists, put_sheets, put_strings, put_places, put_lines, put_counts,
-                 put_shapes, put_widths, put_longest, put_founded):
+                 put_shapes, put_widths, put_longest, put_alike, put_founded):
         kind()
     # each line once
     print("\n".join(dict.fromkeys(lines)))
