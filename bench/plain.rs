@@ -14,6 +14,7 @@ struct Index {
     waiting: Vec<Vec<u32>>,
 }
 
+/// A tariff as it was read.
 struct Lines {
     width: usize,
     fares: Vec<Rule>,
@@ -21,11 +22,9 @@ struct Lines {
     denials: Vec<Rule>,
 }
 
+/// A tariff as it is settled by.
 struct Tariff {
-    width: usize,
-    fares: Vec<Rule>,
-    terms: Vec<Rule>,
-    denials: Vec<Rule>,
+    lines: Lines,
     fare_index: Index,
     term_index: Index,
     denial_index: Index,
@@ -132,9 +131,10 @@ fn read(file: &[u8]) -> Result<Lines, u32> {
 
 impl Tariff {
     fn of(lines: Lines) -> Tariff {
-        let Lines { width, fares, terms, denials } = lines;
-        let (fare_index, term_index, denial_index) = (index(&fares, width), index(&terms, width), index(&denials, width));
-        Tariff { width, fares, terms, denials, fare_index, term_index, denial_index }
+        let fare_index = index(&lines.fares, lines.width);
+        let term_index = index(&lines.terms, lines.width);
+        let denial_index = index(&lines.denials, lines.width);
+        Tariff { lines, fare_index, term_index, denial_index }
     }
 }
 
@@ -158,9 +158,9 @@ impl<'a> Growth<'a> {
             fares: t.fare_index.need.clone(),
             terms: t.term_index.need.clone(),
             denials: t.denial_index.need.clone(),
-            clash: t.denials.iter().any(|d| d.conditions.is_empty()),
+            clash: t.lines.denials.iter().any(|d| d.conditions.is_empty()),
         };
-        for r in &t.terms {
+        for r in &t.lines.terms {
             if r.conditions.is_empty() {
                 g.add(r.head);
             }
@@ -181,7 +181,7 @@ impl<'a> Growth<'a> {
             for &i in &self.t.term_index.waiting[m as usize] {
                 self.terms[i as usize] -= 1;
                 if self.terms[i as usize] == 0 {
-                    self.add(self.t.terms[i as usize].head);
+                    self.add(self.t.lines.terms[i as usize].head);
                 }
             }
             for &i in &self.t.denial_index.waiting[m as usize] {
@@ -194,7 +194,7 @@ impl<'a> Growth<'a> {
             for &i in &self.t.fare_index.waiting[m as usize] {
                 self.fares[i as usize] -= 1;
                 if self.fares[i as usize] == 0 && counts[i as usize] {
-                    self.add(self.t.fares[i as usize].head);
+                    self.add(self.t.lines.fares[i as usize].head);
                 }
             }
         }
@@ -202,21 +202,21 @@ impl<'a> Growth<'a> {
 
     fn closed(mut self, counts: Option<&[bool]>) -> Marks {
         self.run(counts);
-        if self.clash { all(self.t.width) } else { self.set }
+        if self.clash { all(self.t.lines.width) } else { self.set }
     }
 }
 
 /// The yield of a set: the fare lines whose exceptions lie outside it, and whose head is not among `denied`.
 fn yield_of(t: &Tariff, facts: &Marks, at: &Marks, denied: &Marks) -> Marks {
     let counts: Vec<bool> =
-        t.fares.iter().map(|r| !has(denied, r.head) && r.unless.iter().all(|&u| !has(at, u))).collect();
+        t.lines.fares.iter().map(|r| !has(denied, r.head) && r.unless.iter().all(|&u| !has(at, u))).collect();
     let mut g = Growth::new(t);
-    for m in 0..t.width as u16 {
+    for m in 0..t.lines.width as u16 {
         if has(facts, m) && !has(denied, m) {
             g.add(m);
         }
     }
-    for (r, &c) in t.fares.iter().zip(&counts) {
+    for (r, &c) in t.lines.fares.iter().zip(&counts) {
         if c && r.conditions.is_empty() {
             g.add(r.head);
         }
@@ -226,7 +226,7 @@ fn yield_of(t: &Tariff, facts: &Marks, at: &Marks, denied: &Marks) -> Marks {
 
 fn clashes_with(t: &Tariff, at: &Marks, extra: Option<u16>) -> bool {
     let mut g = Growth::new(t);
-    for m in 0..t.width as u16 {
+    for m in 0..t.lines.width as u16 {
         if has(at, m) || extra == Some(m) {
             g.add(m);
         }
@@ -236,25 +236,25 @@ fn clashes_with(t: &Tariff, at: &Marks, extra: Option<u16>) -> bool {
 }
 
 fn denied_at(t: &Tariff, facts: &Marks, at: &Marks) -> Marks {
-    if t.denials.is_empty() {
+    if t.lines.denials.is_empty() {
         return [0; 8];
     }
     if clashes_with(t, at, None) {
-        return all(t.width);
+        return all(t.lines.width);
     }
     let mut g = Growth::new(t);
-    for m in 0..t.width as u16 {
+    for m in 0..t.lines.width as u16 {
         if has(at, m) {
             g.add(m);
         }
     }
     let closed = g.closed(None);
     let mut heads = *facts;
-    for r in &t.fares {
+    for r in &t.lines.fares {
         put(&mut heads, r.head);
     }
     let mut denied = [0; 8];
-    for m in 0..t.width as u16 {
+    for m in 0..t.lines.width as u16 {
         if has(&heads, m) && !has(&closed, m) && clashes_with(t, at, Some(m)) {
             put(&mut denied, m);
         }
@@ -268,7 +268,7 @@ fn guarded(t: &Tariff, facts: &Marks, at: &Marks) -> Marks {
 
 fn settle(t: &Tariff, facts: &Marks) -> (Marks, Marks, u32) {
     let none = [0; 8];
-    let (mut lower, mut upper) = (none, all(t.width));
+    let (mut lower, mut upper) = (none, all(t.lines.width));
     loop {
         let next_lower = yield_of(t, facts, &upper, &none);
         let next_upper = guarded(t, facts, &next_lower);
@@ -302,7 +302,7 @@ fn answer(file: &[u8], facts: &[u8], out: &mut [u8]) -> Result<u32, u32> {
     // reading alone makes no index: it is needed for settling only
     let t = Tariff::of(lines);
     let (lower, upper, verdict) = settle(&t, &set);
-    for m in 0..t.width {
+    for m in 0..t.lines.width {
         out[m] = match (has(&lower, m as u16), has(&upper, m as u16)) {
             (false, false) => 0,
             (true, true) => 1,

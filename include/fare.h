@@ -12,7 +12,7 @@ extern "C" {
 /* A tariff has 1 to 512 marks, numbered from 0: statements about a trip. */
 #define FARE_MOST_MARKS 512
 
-/* The longest facts string: a count, and 512 marks of at most two bytes each. */
+/* Room for any facts string: a count, and 512 marks of at most two bytes each. */
 #define FARE_MOST_FACTS_BYTES 1026
 
 /* What the output says of a mark. */

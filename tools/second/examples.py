@@ -92,6 +92,19 @@ facts 200 01c701 => ok 199 1 01c701
 facts 200 01c801 => fault 3 1
 """)
 
+# FORMAT.md, sets written as facts strings
+STRINGS = pairs("""
+string 1 5: => ok 1 00
+string 0 5: => refused 13 -
+string 2 5:3 => ok 2 0103
+string 3 5:0,3 => ok 3 020003
+string 5 200:127,128 => ok 4 027f8001aa
+string 4 200:127,128 => ok 4 027f8001
+string 3 200:127,128 => refused 13 aaaaaa
+string 3 200:199 => ok 3 01c701
+string 0 200:199 => refused 13 -
+""")
+
 # FORMAT.md, beginnings of the sample file: where each breaks off
 CUTS = pairs("\n".join(
     "read 2 2 %s => fault 1 %d%s" % (
@@ -181,6 +194,14 @@ settle 1 0/0,1,2,3,4,5,6,7/ 16: bare 16 => ok clear 2 . .
 settle 1 0/0,1,2,3,4,5,6,7,8/ 16: bare 16 => refused 8
 settle 1 0//0,1,2,3,4,5,6,7 16: bare 16 => ok clear 2 . 0
 settle 1 0//0,1,2,3,4,5,6,7,8 16: bare 16 => refused 8
+founded 3//*1024 5: => ok 3 0,1,2,4
+founded 3//*1025 5: => refused 8
+founded 0//0,1,2,3,4,5,6,7 10: => ok . 1,2,3,4,5,6,7,8,9
+founded 0//0,1,2,3,4,5,6,7,8 10: => refused 8
+founded 5// 5: => refused 8
+founded - 5:0,3 => ok 0,3 1,2,4
+sheets 2 2 0bs1;0c;0s1;0bt2:0;0t2: 3//*1025&0//*1024 bare 2 => ok clear/2;1/1/0/0;r8;yes;r8
+sheets 2 2 0be0;0ba0;0bc;0bx1;0bs2;0ba0;0bc;0bl;1bs1;0bl - bare 2 => ok done;r12;r12;r11;clear/2;holds;1/1/0/0;r12;clear/2;no
 """)
 
 # EXAMPLES.md, the worked sheets: facts, fare lines, book, T and U after each round,
@@ -222,7 +243,8 @@ SHEETS = [
 
 
 def sheet_pairs():
-    """Each worked sheet as cases: settled by both methods, each set tried, its counts."""
+    """Each worked sheet as cases: settled by both methods, each set tried, its counts,
+    and with the bare book the well-founded model."""
     found = []
     for _, facts, fares, book, rounds, verdict, counts, sound in SHEETS:
         width, marks = facts.split(":")
@@ -234,6 +256,10 @@ def sheet_pairs():
             calls += ["0s" + method, "0c"]
             found.append(("sheets %s %s %s %s %s" % (width, width, ";".join(calls), fares, book),
                           "ok " + ";".join(replies)))
+        if book.startswith("bare"):
+            t, u = rounds[-1]
+            f = ",".join(mark for mark in "0123456789"[:int(width)] if mark not in u.split(","))
+            found.append(("founded %s %s" % (fares, facts), "ok %s %s" % (t, f or ".")))
         for number in range(2 ** int(width)):
             tried = ",".join(str(mark) for mark in range(int(width)) if number >> mark & 1)
             found.append(("sound %s %s %s:%s %s" % (fares, facts, width, tried, book),
@@ -241,4 +267,4 @@ def sheet_pairs():
     return found
 
 
-ALL = CASES + NUMBERS + FACTS + CUTS + FILES + HOST + CLOSINGS + CALLS + sheet_pairs()
+ALL = CASES + NUMBERS + FACTS + STRINGS + CUTS + FILES + HOST + CLOSINGS + CALLS + sheet_pairs()

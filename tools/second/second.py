@@ -5,12 +5,12 @@ import sys
 import leb
 import readings
 import tariff_file
-import wellfounded
 import words
 from host import fare_settle
 from marks import MarkSet
 from refusal import FileFault, LineFault, NumberFault, Refused
 from sheet import Ask, Enter, Settle, Sheet, Strike, perform_list
+from wellfounded import well_founded
 
 VERDICTS = {readings.CLEAR: "clear", readings.SUSPECT: "suspect", readings.BROKEN: "broken"}
 ANSWERS = {readings.NOT: "not", readings.HOLDS: "holds", readings.OPEN: "open",
@@ -51,18 +51,18 @@ def case_number(low, high, data):
     return "ok %d %d" % (value, reader.place)
 
 
-def written(room, write):
-    """What a call writes into so many bytes, and all of them."""
+def written_text(room, write):
+    """What is printed for a call that writes into so many bytes and answers a number."""
     out = bytearray([BEFORE] * int(room))
     try:
-        behind = write(out)
+        answer = write(out)
     except Refused as refusal:
         return "refused %d %s" % (refusal.number, words.hex_text(out))
-    return "ok %d %s" % (behind, words.hex_text(out))
+    return "ok %d %s" % (answer, words.hex_text(out))
 
 
 def case_spell(room, place, value):
-    return written(room, lambda out: leb.write_number(out, int(place), int(value)))
+    return written_text(room, lambda out: leb.write_number(out, int(place), int(value)))
 
 
 def case_facts(width, data):
@@ -77,7 +77,7 @@ def case_facts(width, data):
 
 def case_string(room, given):
     given = words.read_set(given)
-    return written(room, lambda out: leb.write_facts(given, out))
+    return written_text(room, lambda out: leb.write_facts(given, out))
 
 
 def case_read(fare_room, term_room, data):
@@ -90,8 +90,9 @@ def case_read(fare_room, term_room, data):
 
 
 def case_write(width, room, fares, terms):
-    fares, terms = words.read_fares(fares), words.read_terms(terms)
-    return written(room, lambda out: tariff_file.write_file(int(width), fares, terms, out))
+    fares = words.read_fares(fares)
+    terms = words.read_terms(terms)
+    return written_text(room, lambda out: tariff_file.write_file(int(width), fares, terms, out))
 
 
 def case_host(file, facts, out):
@@ -132,7 +133,7 @@ def case_sound(fares, facts, tried, *book):
 
 
 def case_founded(fares, facts):
-    t, f = wellfounded.well_founded(words.read_set(facts), words.read_fares(fares))
+    t, f = well_founded(words.read_set(facts), words.read_fares(fares))
     return "ok %s %s" % (words.marks_text(t), words.marks_text(f))
 
 
@@ -175,13 +176,13 @@ def case_list(width, records, calls, fares, *book):
     return replies_text([reply_text(kind, reply) for kind, reply in zip(kinds, replies)])
 
 
-def call_on_sheet(text, sheets, lists, book):
-    """Make one call of a sheets case, with one of the two lists of fare lines; give its reply as text."""
-    which, text = int(text[0]), text[1:]
-    fares = lists[0]
-    if text[0] == "b":
-        fares, text = lists[1], text[1:]
-    kind, rest = text[0], text[1:]
+def call_on_sheet(text, sheets, fare_lists, book):
+    """Make one call of a sheets case and give its reply as text."""
+    which, call = int(text[0]), text[1:]
+    fares, second_fares = fare_lists
+    if call[0] == "b":
+        fares, call = second_fares, call[1:]
+    kind, rest = call[0], call[1:]
     sheet, other = sheets[which], sheets[1 - which]
     try:
         if kind == "c":
@@ -191,7 +192,7 @@ def call_on_sheet(text, sheets, lists, book):
         elif kind == "l":
             reply = sheet.alike(other)
         else:
-            reply = listed_call(text).perform(sheet, fares, book)
+            reply = listed_call(call).perform(sheet, fares, book)
     except Refused as refusal:
         reply = refusal
     return reply_text(kind, reply)
@@ -200,14 +201,14 @@ def call_on_sheet(text, sheets, lists, book):
 def case_sheets(width, other_width, calls, fares, *book):
     book = make_book(book)
     sheets = [Sheet(int(width)), Sheet(int(other_width))]
-    first, _, second = fares.partition("&")
-    lists = words.read_fares(first), words.read_fares(second or "-")
-    return replies_text(read_calls(calls, lambda text: call_on_sheet(text, sheets, lists, book)))
+    fare_lists = words.read_fare_lists(fares)
+    return replies_text(read_calls(
+        calls, lambda text: call_on_sheet(text, sheets, fare_lists, book)))
 
 
 CASES = {"number": case_number, "spell": case_spell, "facts": case_facts, "string": case_string,
-         "read": case_read, "write": case_write, "host": case_host, "make": case_make, "next": case_next,
-         "close": case_close, "settle": case_settle, "sound": case_sound,
+         "read": case_read, "write": case_write, "host": case_host, "make": case_make,
+         "next": case_next, "close": case_close, "settle": case_settle, "sound": case_sound,
          "founded": case_founded, "list": case_list, "sheets": case_sheets}
 
 

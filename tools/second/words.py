@@ -52,6 +52,12 @@ def read_fares(word):
     return read_items(word, read_fare)
 
 
+def read_fare_lists(word):
+    """The two lists of fare lines of a sheets case; with one list the second has no lines."""
+    first, both, second = word.partition("&")
+    return read_fares(first), read_fares(second) if both else []
+
+
 def read_terms(word):
     return read_items(word, read_term)
 

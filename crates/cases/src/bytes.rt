@@ -6,7 +6,7 @@ use std::alloc::Global;
 use tariff::cursor::Reader;
 use tariff::facts::{read_facts, write_facts};
 use tariff::writer::write_number;
-use texts::facts_string::LONGEST;
+use texts::facts_string::MOST_BYTES;
 
 // What output holds before it is written.
 pub(crate) const BLANK: u8 = 0xaa;
@@ -47,7 +47,7 @@ pub(crate) fn facts(heap: Global, width: &str, hex: &str) -> Printed {
 
 // The marks that were read, and the string written back.
 fn facts_back(heap: Global, facts: &MarkSet) -> Printed {
-    let mut out = [0; LONGEST];
+    let mut out = [0; MOST_BYTES];
     match write_facts(facts, &mut out) {
         Err(refusal) => refused(heap, refusal),
         Ok(length) => {

@@ -35,9 +35,10 @@ An example: fare settle sample 0 3";
 pub(crate) fn perform(rt: &HostRuntime, words: &[&str]) -> Result<(), Failure> {
     match words {
         [] | ["sample"] => show_sample(rt),
+        ["--help", ..] | [_, "--help"] => Ok(rt.println(HELP)?),
+        ["facts"] | ["numbers"] => Err("bytes in hexadecimal must follow".into()),
         ["facts", strings @ ..] => facts_strings(rt, strings),
         ["numbers", strings @ ..] => number_strings(rt, strings),
-        ["--help", ..] | [_, "--help"] => Ok(rt.println(HELP)?),
         ["show", file] => show_file(rt, file),
         ["check", file] => check_file(rt, file),
         ["copy", file, to @ ..] => copy(rt, file, to),

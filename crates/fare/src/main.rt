@@ -33,7 +33,7 @@ fn by_words(rt: &HostRuntime) -> Result<(), Failure> {
     let words: Vec<&str> = args.iter().map(|word| word.as_str()).collect(rt.alloc())?;
     match words.as_slice() {
         ["-"] => perform_lines(rt),
-        ["run", file] => run_input(rt, file),
+        ["run", file] if *file != "--help" => run_input(rt, file),
         all => perform(rt, all),
     }
 }

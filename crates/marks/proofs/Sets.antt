@@ -53,18 +53,11 @@ with_inside w S k l inside m = go (eqb m k) (eqb→eq m k)
     go false e t = inside m t
 
 pub without_inside : (w : ℕ) (S : Marks) (k : ℕ) → OfWidth w S → OfWidth w (without_mark S k)
-without_inside w S k inside m t = inside m (and_second (not (eqb m k)) (S m) t)
+without_inside w S k inside m t = go (not (eqb m k)) t
   where
-    and_second : (a b : Bool) → T (a && b) → T b
-    and_second true b t = t
-    and_second false b t = absurd t
-
-pub both_inside : (w : ℕ) (S S' : Marks) → OfWidth w S → OfWidth w S' → OfWidth w (S ∪ S')
-both_inside w S S' f g m = go (S m) (f m) (g m)
-  where
-    go : (b : Bool) → (T b → m ∈ below w) → (m ∈ S' → m ∈ below w) → T (b || S' m) → m ∈ below w
-    go true f g t = f tt
-    go false f g t = g t
+    go : (a : Bool) → T (a && S m) → m ∈ below w
+    go true t = inside m t
+    go false t = absurd t
 
 pub joined_inside : (on : Bool → Bool → Bool) → on false false ≡ false → (w : ℕ) (S S' : Marks) → OfWidth w S → OfWidth w S' → OfWidth w (joined on S S')
 joined_inside on none w S S' f g m = go (S m) (S' m) (f m) (g m)
@@ -73,6 +66,9 @@ joined_inside on none w S S' f g m = go (S m) (S' m) (f m) (g m)
     go true b f g t = f tt
     go false true f g t = g tt
     go false false f g t = absurd (fails none t)
+
+pub both_inside : (w : ℕ) (S S' : Marks) → OfWidth w S → OfWidth w S' → OfWidth w (S ∪ S')
+both_inside = joined_inside (λ a b. a || b) refl
 
 -- one mark more of a list
 pub among_more : (ms : List ℕ) (i : ℕ) → i < length ms → with_mark (among (take i ms)) (get_or ms i 0) ≡ among (take (i + 1) ms)

@@ -9,7 +9,7 @@ use Rattle.readings.specs.Rules.{Rule, Fit}
 use Rattle.readings.specs.Readings.{LeastReading}
 use Rattle.readings.specs.Methods.{Run, start, round, first_method}
 use Rattle.readings.specs.Says.{IsBroken}
-use Rattle.readings.specs.Theorems.{BrokenIsAClash}
+use Rattle.readings.specs.Theorems.{BrokenFacts}
 use Rattle.marks.proofs.Sets.{equal_within}
 use Rattle.readings.proofs.Sets.{with_old, within_or_lacks, decide}
 use Rattle.readings.proofs.Closing.{none_within, least_in}
@@ -70,7 +70,7 @@ module _ {B : Book} {lines : List Rule} {facts : Marks} (fit : Fit B lines facts
   everything_at : {X : Marks} → OfWidth B.width X → Closed B X → Clashes B no_marks → X ≡ below B.width
   everything_at {X} w closed c = all_at w closed (fit.lawful.clash_grows no_marks X (none_within _) w (none_within X) c)
 
-  pub broken_is_a_clash : BrokenIsAClash B lines facts
+  pub broken_is_a_clash : BrokenFacts B lines facts
   broken_is_a_clash =
       record {
         exactly = λ T U p. broken_is_clash p;

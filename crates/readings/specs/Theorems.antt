@@ -82,7 +82,7 @@ module _ (B : Book) (lines : List Rule) (facts : Marks) where
         → (M : Marks) → Sound B lines facts M → ⊥
 
   -- What is so where facts are broken, and where they are not.
-  pub record BrokenIsAClash : Type 0 where
+  pub record BrokenFacts : Type 0 where
     -- they are broken exactly when the book clashes at the T of their least reading
     pub exactly : (T U : Marks) → LeastReading B lines facts T U → (the_verdict Broken).says B lines facts T U ↔ Clashes B T
     -- T is then all marks, so that each mark holds or is both

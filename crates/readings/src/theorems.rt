@@ -1,5 +1,5 @@
 // What is proved of readings: each function's contract is a theorem, and the function does nothing.
-ghost use Rattle.readings.specs.Theorems.{Always, AnswersAreSound, BareBookIsWellFounded, BrokenIsAClash, ComputedRight};
+ghost use Rattle.readings.specs.Theorems.{Always, AnswersAreSound, BareBookIsWellFounded, BrokenFacts, ComputedRight};
 ghost use Rattle.readings.specs.Theorems.{FirstMethodFindsIt, MethodsAgree, MethodsStop, OneLeastReading, RelationsDecide};
 ghost use Rattle.readings.specs.Theorems.{SaysOneThing, YieldsExistOnce, YieldsFall};
 
@@ -46,7 +46,7 @@ pub fn answers_are_sound()
 
 // Facts are broken exactly when the book clashes at T. T is then all marks, and else it lies within U.
 pub fn broken_is_a_clash()
-    ensures { Always BrokenIsAClash }
+    ensures { Always BrokenFacts }
 {}
 
 // With the bare book the least reading is the well-founded model.

@@ -5,8 +5,8 @@ use marks::set::MarkSet;
 use std::fmt;
 use tariff::facts::{read_facts, write_facts};
 
-// The longest facts string has a count of two bytes and 512 marks of at most two.
-pub const LONGEST: usize = 1026;
+// Room for any facts string: a count of two bytes, and 512 marks of at most two.
+pub const MOST_BYTES: usize = 1026;
 
 // A facts string for a width: its marks and its bytes written back, or why it is refused.
 #[derive(Clone, Copy)]
@@ -49,7 +49,7 @@ struct WrittenBack<'a> {
 
 impl fmt::Display for WrittenBack<'_> {
     fn fmt<W: fmt::Write>(&self, f: &mut fmt::Formatter<W>) -> fmt::Result {
-        let mut out = [0; LONGEST];
+        let mut out = [0; MOST_BYTES];
         match write_facts(self.facts, &mut out) {
             Err(refusal) => write!(f, "{}", RefusalText(refusal)),
             Ok(length) => {

@@ -37,6 +37,7 @@ impl fmt::Display for Part<'_> {
     }
 }
 
+// A fare line: 1 if 3 unless 2.
 #[derive(Clone, Copy)]
 pub struct FareText<'a>(pub &'a FareLine);
 
@@ -55,6 +56,7 @@ impl fmt::Display for FareText<'_> {
     }
 }
 
+// A term line: 0 gives 2, or 1 with 2 is denied.
 #[derive(Clone, Copy)]
 pub struct TermText<'a>(pub &'a TermLine);
 
