@@ -1,4 +1,3 @@
-pub mod Loading
 pub mod Outcomes
 pub mod Deciding
 pub mod Listing

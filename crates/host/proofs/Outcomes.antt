@@ -2,14 +2,13 @@
 use Rattle.std.proofs.Common.{ℕ, ◌+◌, List, length, Err, refl}
 use Rattle.host.specs.declared.refused.Refused.{Refused}
 use Rattle.host.specs.declared.refused.Refused.TheVariants.{File, Facts, Output}
-use Rattle.host.specs.declared.tables.Tables.{Tables}
+use Rattle.tariff_format.specs.Encoding.{Tariff}
 use Rattle.host.specs.Host.{HostAnswer, file_refused, facts_refused, output_short}
 use Rattle.host.specs.Refused.{refused_number}
-use Rattle.host.specs.Steps.{tariff_in, Tested}
+use Rattle.host.specs.Steps.{Tested}
 
-pub refused_outcome : (file facts before : List ℕ) (b : Tables) (f : Refused) → Tested file facts (length before) b (Err f)
+pub refused_outcome : (file facts before : List ℕ) (t : Tariff) (f : Refused) → Tested file facts (length before) t (Err f)
     → HostAnswer file facts before before (100 + refused_number f)
-refused_outcome file facts before b (File f) t = file_refused f t (record { number = refl; unchanged = refl })
-refused_outcome file facts before b (Facts f) t = facts_refused (tariff_in b) f t.0.file t.1 (record { number = refl; unchanged = refl })
-refused_outcome file facts before b Output t =
-    output_short (tariff_in b) t.1.marks t.0.file t.1.are t.2 (record { number = refl; unchanged = refl })
+refused_outcome file facts before t (File f) x = file_refused f x (record { number = refl; unchanged = refl })
+refused_outcome file facts before t (Facts f) x = facts_refused t f x.0 x.1 (record { number = refl; unchanged = refl })
+refused_outcome file facts before t Output x = output_short t x.1.marks x.0 x.1.are x.2 (record { number = refl; unchanged = refl })

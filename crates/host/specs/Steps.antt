@@ -1,5 +1,5 @@
 -- What each step of the host call does.
-use Rattle.std.specs.Prelude.{◌≡◌, ℕ, ◌+◌, ◌<◌, ◌≤◌, List, take, Ok, Err, Result, slice_index}
+use Rattle.std.specs.Prelude.{◌≡◌, ℕ, ◌+◌, ◌<◌, ◌≤◌, List, Ok, Err, Result, slice_index}
 use Rattle.marks.specs.MarkSets.{marks_of}
 use Rattle.marks.specs.Sets.{Marks}
 use Rattle.marks.specs.declared.set.MarkSet.{MarkSet}
@@ -11,30 +11,10 @@ use Rattle.tariff.specs.Facts.{FactsAre, FactsFault}
 use Rattle.tariff.specs.declared.fault.NumberFault.{NumberFault}
 use Rattle.tariff_format.specs.Answers.{FileIs, FileHasFault}
 use Rattle.tariff_format.specs.Encoding.{Tariff}
-use Rattle.tariff_format.specs.declared.fault.FileFault.{FileFault}
 use Rattle.host.specs.declared.refused.Refused.{Refused}
 use Rattle.host.specs.declared.refused.Refused.TheVariants.{File, Facts, Output}
-use Rattle.host.specs.declared.tables.Tables.{Tables}
 use Rattle.host.specs.Host.{AnswerByte, book_of, fare_rules}
 use Rattle.host.specs.Refused.{refused_number}
-
--- the tariff in the first records
-abbrev pub tariff_in : Tables → Tariff
-tariff_in b = record { width = b.counts.width; fares = take b.counts.fares b.fares; terms = take b.counts.terms b.terms }
-
--- there is a record for each line
-pub record HasRecords (b : Tables) : Type 0 where
-  pub fares : b.counts.fares ≤ 1024
-  pub terms : b.counts.terms ≤ 512
-
--- the file is that of the tariff in the tables
-pub record InTables (bytes : List ℕ) (b : Tables) : Type 0 where
-  pub file : FileIs 1024 512 bytes (tariff_in b)
-  pub room : HasRecords b
-
-abbrev pub Loaded : List ℕ → Tables → {A : Type 0} → Result A FileFault → Type 0
-Loaded file b (Ok a) = InTables file b
-Loaded file b (Err f) = FileHasFault 1024 512 file f
 
 -- the facts string is that of a set of the width w
 pub record IsFacts (w : ℕ) (facts : List ℕ) : Type 0 where
@@ -46,12 +26,13 @@ abbrev pub FactsFound : ℕ → List ℕ → Result MarkSet NumberFault → Type
 FactsFound w facts (Ok s) = (s.width ≡ w) × FactsAre w facts (marks_of s) × IsFacts w facts
 FactsFound w facts (Err f) = FactsFault w facts f
 
--- the tests of the file, the facts string and an output with room for so many bytes: the set of the facts, or the first fault
-abbrev pub Tested : (file facts : List ℕ) → ℕ → Tables → Result MarkSet Refused → Type 0
-Tested file facts room b (Ok s) = InTables file b × (s.width ≡ b.counts.width) × FactsAre b.counts.width facts (marks_of s) × (b.counts.width ≤ room)
-Tested file facts room b (Err (File f)) = FileHasFault 1024 512 file f
-Tested file facts room b (Err (Facts f)) = InTables file b × FactsFault b.counts.width facts f
-Tested file facts room b (Err Output) = InTables file b × IsFacts b.counts.width facts × (room < b.counts.width)
+-- the tests of the file, the facts string and an output with room for so many bytes: the file's tariff and the set of the facts, or the
+-- first fault
+abbrev pub Tested : (file facts : List ℕ) → ℕ → Tariff → Result MarkSet Refused → Type 0
+Tested file facts room t (Ok s) = FileIs 1024 512 file t × (s.width ≡ t.width) × FactsAre t.width facts (marks_of s) × (t.width ≤ room)
+Tested file facts room t (Err (File f)) = FileHasFault 1024 512 file f
+Tested file facts room t (Err (Facts f)) = FileIs 1024 512 file t × FactsFault t.width facts f
+Tested file facts room t (Err Output) = FileIs 1024 512 file t × IsFacts t.width facts × (room < t.width)
 
 -- the least reading of the facts, and the verdict on it
 pub record Found (t : Tariff) (facts : MarkSet) (j : Judged) : Type 0 where

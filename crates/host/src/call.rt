@@ -6,9 +6,9 @@ ghost use Rattle.host.specs.Steps.{answer_number};
 use crate::answers::write_answers;
 use crate::refused::Refused;
 use crate::settled::settle_facts;
-use crate::tables::Tables;
 use crate::tests::read_inputs;
 use readings::verdict::Verdict;
+use tariff_reader::tables::Tables;
 
 // Settles the facts by the tariff file, writes the answers, and says the verdict. All tests come before the first byte.
 fn settle_bytes(file: &[u8], facts: &[u8], out: &mut [u8]) -> Result<Verdict, Refused>

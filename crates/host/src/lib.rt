@@ -5,6 +5,5 @@ mod answers;
 pub mod call;
 mod refused;
 mod settled;
-mod tables;
 mod tests;
 pub mod theorems;

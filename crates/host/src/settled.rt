@@ -3,14 +3,14 @@ ghost use Rattle.std.specs.Prelude.{◌≡◌, ◌≤◌};
 ghost use Rattle.line_book.specs.LineBooks.{IsLineBook};
 ghost use Rattle.lines.specs.Lawful.{LawfulTerm, AllLawful};
 ghost use Rattle.tariff_format.specs.Encoding.{LawfulTariff};
-ghost use Rattle.host.specs.Steps.{tariff_in, HasRecords, Found};
+ghost use Rattle.host.specs.Steps.{Found};
 
-use crate::tables::Tables;
 use line_book::book::LineBook;
 use lines::term::TermLine;
 use marks::set::MarkSet;
 use readings::method::Method;
 use settling::settle::{Judged, settle};
+use tariff_reader::tables::Tables;
 
 // The line book on the term lines.
 fn book_of(width: u16, terms: &[TermLine]) -> LineBook
@@ -26,13 +26,10 @@ fn book_of(width: u16, terms: &[TermLine]) -> LineBook
 
 // The least reading of the facts and the verdict on it, by the tariff in the tables and the first method.
 pub(crate) fn settle_facts(tables: &Tables, facts: &MarkSet) -> Judged
-    requires room { HasRecords tables.now }
-    requires lawful { LawfulTariff (tariff_in tables.now) }
-    requires width { facts.now.width ≡ tables.now.counts.width }
-    ensures { Found (tariff_in tables.now) facts.now result }
+    requires lawful { LawfulTariff tables.now }
+    requires width { facts.now.width ≡ tables.now.width }
+    ensures { Found tables.now facts.now result }
 {
-    let counts = tables.counts;
-    let book = book_of(counts.width, &tables.terms[..counts.terms as usize]);
-    let fares = &tables.fares[..counts.fares as usize];
-    settle(fares, &book, facts, Method::First).unwrap()
+    let book = book_of(tables.width(), tables.terms());
+    settle(tables.fares(), &book, facts, Method::First).unwrap()
 }

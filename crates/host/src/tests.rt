@@ -3,18 +3,18 @@ ghost use Rattle.std.specs.Prelude.{◌≤◌};
 ghost use Rattle.host.specs.Steps.{FactsFound, Tested};
 
 use crate::refused::Refused;
-use crate::tables::Tables;
 use marks::set::MarkSet;
 use tariff::facts::read_facts;
 use tariff::fault::NumberFault;
+use tariff_reader::tables::Tables;
 
-// The set of the facts, of a width from 1 to 512.
-fn facts_of(width: u16, facts: &[u8]) -> Result<MarkSet, NumberFault>
-    requires some { 1 ≤ width }
-    requires few { width ≤ 512 }
-    ensures { FactsFound width facts.now result }
+// The set of the facts, of the width of a tariff.
+fn facts_of(tables: &Tables, facts: &[u8]) -> Result<MarkSet, NumberFault>
+    requires some { 1 ≤ tables.now.width }
+    requires few { tables.now.width ≤ 512 }
+    ensures { FactsFound tables.now.width facts.now result }
 {
-    let Ok(mut set) = MarkSet::empty(width) else {
+    let Ok(mut set) = MarkSet::empty(tables.width()) else {
         unreachable()
     };
     read_facts(facts, &mut set)?;
@@ -31,12 +31,11 @@ pub(crate) fn read_inputs(
     ensures { Tested file.now facts.now room tables.new result }
 {
     tables.load(file)?;
-    let width = tables.counts.width;
-    let set = match facts_of(width, facts) {
+    let set = match facts_of(tables, facts) {
         Ok(set) => set,
         Err(fault) => return Err(Refused::Facts(fault)),
     };
-    if room < width as usize {
+    if room < tables.width() as usize {
         return Err(Refused::Output);
     }
     Ok(set)

@@ -1,4 +1,4 @@
-// The two walks over a file.
+// The walks over a file: one that keeps nothing, and one that fills records.
 ghost use Rattle.std.specs.Prelude.{◌≡◌, length};
 ghost use Rattle.tariff_format.specs.Files.{file_at};
 ghost use Rattle.tariff_reader.specs.Answers.{Accepted, Tested, answer, fare_records, term_records, RightReading};
@@ -31,16 +31,15 @@ pub(crate) fn check(bytes: &[u8], fares: usize, terms: usize) -> Result<Counts, 
     scan(bytes, fares, terms)
 }
 
-// Reads a file that passed its tests into the first records.
+// Reads a file into the first of the records, in one walk. Where it is refused, some of them may be written.
 pub(crate) fn load(
     bytes: &[u8],
     fares: &mut [FareLine],
     terms: &mut [TermLine],
 ) -> Result<Counts, FileFault>
-    requires { Accepted (file_at (length fares.old) (length terms.old) bytes.now) }
     ensures value { result ≡ answer (file_at (length fares.old) (length terms.old) bytes.now) }
-    ensures fares { fares.new ≡ fare_records (file_at (length fares.old) (length terms.old) bytes.now) fares.old }
-    ensures terms { terms.new ≡ term_records (file_at (length fares.old) (length terms.old) bytes.now) terms.old }
+    ensures fares { Accepted (file_at (length fares.old) (length terms.old) bytes.now) → fares.new ≡ fare_records (file_at (length fares.old) (length terms.old) bytes.now) fares.old }
+    ensures terms { Accepted (file_at (length fares.old) (length terms.old) bytes.now) → terms.new ≡ term_records (file_at (length fares.old) (length terms.old) bytes.now) terms.old }
 {
     let mut reader = Reader::new(bytes);
     let counts = read_opening(&mut reader, fares.len(), terms.len())?;
@@ -54,5 +53,6 @@ pub(crate) fn load(
         counts.width,
         &mut terms[..counts.terms as usize],
     )?;
+    reader.finish()?;
     Ok(counts)
 }

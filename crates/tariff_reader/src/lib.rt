@@ -1,4 +1,4 @@
-// Reads tariff files: checks the bytes where they lie, and fills the caller's records.
+// Reads tariff files: checks the bytes where they lie, and fills the caller's records, or tables of its own.
 #![tactic(auto)]
 
 mod file;
@@ -7,3 +7,4 @@ mod list;
 mod opening;
 pub mod read;
 mod section;
+pub mod tables;

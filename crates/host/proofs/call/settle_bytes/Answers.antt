@@ -3,7 +3,6 @@ use Rattle.std.proofs.lemmas.Result.{err_from_is_err_and}
 use Rattle.marks.specs.MarkSets.{marks_of}
 use Rattle.marks.specs.Sets.{Marks}
 use Rattle.host.specs.Host.{AnswersIn, settled}
-use Rattle.host.specs.Steps.{tariff_in}
 use Rattle.host.proofs.Outcomes.{refused_outcome}
 use Rattle.host.proofs.call.settle_bytes.Goals as goal
 
@@ -19,7 +18,7 @@ returns c =
     let found = c.settle_facts-judged.ensures in
     let T : Marks = marks_of judged.settled.reading.lower in
     let U : Marks = marks_of judged.settled.reading.upper in
-    settled (tariff_in c.read_inputs.new.tables) (marks_of c.in_ok-set.set) inputs.0.file inputs.2 inputs.3
+    settled c.read_inputs.new.tables (marks_of c.in_ok-set.set) inputs.0 inputs.2 inputs.3
     (record {
       lower = T;
       upper = U;
