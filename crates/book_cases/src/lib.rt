@@ -4,6 +4,8 @@
 #[cfg(test)]
 mod bars;
 #[cfg(test)]
+mod closing_on;
+#[cfg(test)]
 mod line_books;
 #[cfg(test)]
 mod made;

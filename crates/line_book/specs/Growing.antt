@@ -1,16 +1,12 @@
--- The grown set is the least set with the heads, line books are lawful, and passes reach the grown set.
-use Rattle.std.specs.Prelude.{◌≡◌, ℕ, true, List, [], map, refl}
+-- The grown set is the least set with the heads, and line books are lawful.
+use Rattle.std.specs.Prelude.{◌≡◌, ℕ, true, List, [], refl}
 use mathlib.Core.List.Memᴰ
 use Rattle.std.proofs.Common.{sym, subst, lt→ltb}
-use Rattle.books.specs.Denials.{some_stands}
 use Rattle.books.specs.Denying.{denying_lawful}
 use Rattle.lines.specs.declared.term.TermLine.{TermLine}
-use Rattle.lines.specs.Passes.{View, swept, stood}
 use Rattle.lines.specs.Records.{term_conditions}
-use Rattle.lines.specs.Views.{term_view}
-use Rattle.lines.proofs.Passing.{swept_grows, swept_least, swept_rests, stood_decides}
-use Rattle.marks.specs.Sets.{Marks, ◌∈◌, ◌⊆◌, OfWidth}
-use Rattle.marks.proofs.Sets.{is_true, holds, same_test, equal_within, same_sets}
+use Rattle.marks.specs.Sets.{Marks, ◌∈◌, OfWidth}
+use Rattle.marks.proofs.Sets.{equal_within, same_sets}
 use Rattle.readings.specs.Books.{Lawful}
 use Rattle.readings.specs.Computed.{listed}
 use Rattle.readings.specs.WellFounded.{bare}
@@ -21,8 +17,8 @@ use Rattle.readings.proofs.WellFounded.{bare_lawful}
 use Rattle.readings.proofs.Listing.{among_listed}
 use Rattle.line_book.specs.Lines.{givings, denials, grown, growing, line_book}
 use Rattle.line_book.specs.Theorems.{HasHeads, GrownSet}
-use Rattle.line_book.specs.Giving.{from_givings, to_givings, denial_stands, stands_denial}
-use Rattle.line_book.specs.Seeing.{HeadsBelow, seen_heads, heads_seen, denial_seen, seen_denial}
+use Rattle.line_book.specs.Giving.{from_givings, to_givings}
+use Rattle.line_book.specs.Seeing.{HeadsBelow}
 
 module _ (w : ℕ) (ls : List TermLine) (below_w : HeadsBelow w ls) where
   -- the heads of the lines are those of their rules
@@ -78,32 +74,3 @@ grown_none w S s = sym (grown_once w [] none S s S (record { of_width = s; aroun
   where
     none : HeadsBelow w []
     none l h i e = absurd (Memᴰ.not-nil i)
-
--- a set on the way from S to the grown set
-pub record OnTheWay (ls : List TermLine) (S X : Marks) : Type 0 where
-  pub around : S ⊆ X
-  pub under : (Z : Marks) → S ⊆ Z → HasHeads ls Z → X ⊆ Z
-
-module _ (w : ℕ) (ls : List TermLine) (S X : Marks) (way : OnTheWay ls S X) where
-  abbrev vs : List View
-  vs = map term_view ls
-
-  pub one_more : OnTheWay ls S (swept w vs X)
-  one_more =
-      record {
-        around = λ m t. swept_grows w vs X m (way.around m t);
-        under = λ Z sz zh. swept_least w vs X Z (way.under Z sz zh) (seen_heads w ls Z zh);
-      }
-
-  module _ (below_w : HeadsBelow w ls) (s : OfWidth w S) (x : OfWidth w X) (rest : swept w vs X ≡ X) where
-    pub at_end : X ≡ grown w ls S
-    at_end =
-        grown_once w ls below_w S s X
-        (record { of_width = x; around = way.around; heads = heads_seen w ls X below_w (swept_rests w vs X rest); least = λ Z z sz zh. way.under Z sz zh })
-
-    pub stood_end : stood w vs X ≡ some_stands (denials ls) X
-    stood_end =
-        let d = stood_decides w vs X rest in
-        same_test (stood w vs X) (some_stands (denials ls) X)
-        (λ t. stands_denial ls X (denial_seen ls X (d.0 (is_true (stood w vs X) t))))
-        (λ t. holds (d.1 (seen_denial ls X (denial_stands ls X t))))

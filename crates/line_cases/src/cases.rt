@@ -1,14 +1,10 @@
 // Fare lines, term lines and bars.
 use crate::made::{fare, list, refused, term};
-use lines::admission::Admission;
 use lines::bar::Bar;
 use lines::check::check_records;
 use lines::fare::MOST_FARES;
 use lines::list::MarkList;
-use lines::pass::pass;
 use lines::term::Kind;
-use marks::set::MarkSet;
-use std::test::Fail;
 
 // 1024 fare lines are taken and 1025 are not; 8 conditions are and 9 are not.
 #[test]
@@ -57,44 +53,4 @@ fn compared(rt: HostRuntime) {
     assert!(rt; term(Kind::Gives, 1, list(&[3])) != term(Kind::Gives, 2, list(&[3])));
     assert!(rt; term(Kind::Gives, 1, list(&[3])) != term(Kind::Denies, 1, list(&[3])));
     assert!(rt; Bar { low: 1, high: 2 } != Bar { low: 1, high: 3 });
-}
-
-// A line fires in its turn; what a later line adds does not reach back. A denial stands where its conditions do.
-#[test]
-fn term_pass(rt: HostRuntime) -> Result<(), Fail> {
-    let lines = [
-        term(Kind::Gives, 3, list(&[2])),
-        term(Kind::Gives, 2, list(&[1])),
-        term(Kind::Denies, 0, list(&[1, 2])),
-    ];
-    let mut s = MarkSet::of(4, &[1])?;
-    let first = pass(&lines, &(), &mut s);
-    assert!(rt; first.added && first.stood);
-    assert!(rt; s.same_marks(&MarkSet::of(4, &[1, 2])?)?);
-    assert!(rt; pass(&lines, &(), &mut s).added);
-    assert!(rt; s.same_marks(&MarkSet::of(4, &[1, 2, 3])?)?);
-    assert!(rt; !pass(&lines, &(), &mut s).added);
-    Ok(())
-}
-
-// A fare line is held back by an unless-mark, by a denied head, by a refuted condition.
-#[test]
-fn fare_pass(rt: HostRuntime) -> Result<(), Fail> {
-    let lines = [
-        fare(1, list(&[0]), list(&[4])),
-        fare(2, list(&[0]), list(&[5])),
-        fare(3, list(&[0]), list(&[])),
-        fare(4, list(&[0, 5]), list(&[])),
-        fare(5, list(&[]), list(&[])),
-    ];
-    let gate = Admission {
-        exceptions: MarkSet::of(6, &[4])?,
-        denied: MarkSet::of(6, &[3])?,
-        refuted: MarkSet::of(6, &[5])?,
-    };
-    let mut s = MarkSet::of(6, &[0])?;
-    let passed = pass(&lines, &gate, &mut s);
-    assert!(rt; passed.added && !passed.stood);
-    assert!(rt; s.same_marks(&MarkSet::of(6, &[0, 2, 5])?)?);
-    Ok(())
 }

@@ -5,3 +5,5 @@
 mod cases;
 #[cfg(test)]
 mod made;
+#[cfg(test)]
+mod passes;

@@ -1,5 +1,13 @@
 pub mod Turns
 pub mod Passing
+pub mod Growths
+pub mod Linking
+pub mod Chains
+pub mod Indexing
+pub mod Following
+pub mod Bringing
+pub mod Short
+pub mod Naming
 pub mod Going
 pub mod Admitting
 pub mod Meaning

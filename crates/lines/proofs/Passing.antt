@@ -1,9 +1,9 @@
 -- One pass over lines: what it adds, what it leaves, and when a denial stood.
-use Rattle.std.proofs.Common.{◌≡◌, ℕ, ◌<◌, true, not, ◌&&◌, T, List, [], ◌∷◌, is_some, Some, None, Decides, Option, sym, refl, ap, ◌∙◌, subst, inl, inr}
+use Rattle.std.proofs.Common.{◌≡◌, ℕ, ◌<◌, true, not, ◌&&◌, T, List, [], ◌∷◌, is_some, Some, None, Decides, Option, sym, refl, ap, subst, inl, inr}
 use mathlib.Core.List.Memᴰ
 use mathlib.Core.List.{Memᴰ}
 use Rattle.std.proofs.lemmas.Bool.{or_cases, or_left, or_right, and_from, and_parts, false≢true}
-use Rattle.marks.specs.Sets.{Marks, ◌⊆◌, OfWidth, with_mark, size}
+use Rattle.marks.specs.Sets.{Marks, ◌⊆◌, OfWidth, size}
 use Rattle.marks.proofs.Sets.{same_sets, equal_within, holds, is_true}
 use Rattle.readings.specs.Computed.{has_all}
 use Rattle.readings.proofs.Listing.{has_all_in, in_has_all}
@@ -14,7 +14,7 @@ use Rattle.lines.specs.Theorems.{Fires, HasTheirHeads, SomeHeadless, PassesStand
 use Rattle.lines.proofs.Turns.{brought_grows, brought_width, brought_within, brought_new}
 
 -- a line fires by its test, at a set and at every set around it
-fires_there : (vs : List View) (v : View) (S Z : Marks) → Memᴰ v vs → S ⊆ Z → T (fires v S) → Fires vs v Z
+pub fires_there : (vs : List View) (v : View) (S Z : Marks) → Memᴰ v vs → S ⊆ Z → T (fires v S) → Fires vs v Z
 fires_there vs v S Z i s t =
     record {
       line = i;
@@ -46,24 +46,23 @@ swept_least w (v ∷ vs) S Z s h =
     swept_least w vs (brought w v S) Z
     (brought_within w v S Z s (λ t m e l. h v m (fires_there (v ∷ vs) v S Z (Memᴰ.head refl) s t) e l)) (heads_later w v vs Z h)
 
--- where a pass adds nothing, no turn does
-first_rests : (w : ℕ) (v : View) (vs : List View) (S : Marks) → swept w (v ∷ vs) S ≡ S → brought w v S ≡ S
-first_rests w v vs S e =
-    same_sets (λ m t. equal_within e m (swept_grows w vs (brought w v S) m t)) (brought_grows w v S)
-
-rest_rests : (w : ℕ) (v : View) (vs : List View) (S : Marks) → swept w (v ∷ vs) S ≡ S → swept w vs S ≡ S
-rest_rests w v vs S e = ap (swept w vs) (sym (first_rests w v vs S e)) ∙ e
-
-pub swept_rests : (w : ℕ) (vs : List View) (S : Marks) → swept w vs S ≡ S → HasTheirHeads w vs S
-swept_rests w [] S e u m f is l = absurd (Memᴰ.not-nil f.line)
-swept_rests w (v ∷ vs) S e u m f is l =
+-- a pass brings in the heads of the lines that fire at the set it began with, and tells of those without a head
+pub swept_heads : (w : ℕ) (vs : List View) (S : Marks) (v : View) (h : ℕ) → Fires vs v S → v.head ≡ Some h → h < w → T (swept w vs S h)
+swept_heads w [] S v h f e b = absurd (Memᴰ.not-nil f.line)
+swept_heads w (u ∷ us) S v h f e b =
     elim (Memᴰ.cases_cons f.line) [
       | inl same ↦
-          let e' : brought w u S ≡ S = subst (λ (x : View). brought w x S ≡ S) (sym same) (first_rests w v vs S e) in
-          let new : brought w u S ≡ with_mark S m = brought_new w u S m is l (is_true (fires u S) (test_fires (v ∷ vs) u S f)) in
-          equal_within (sym new ∙ e') m (with_new S m)
-      | inr i ↦ swept_rests w vs S (rest_rests w v vs S e) u m (record { line = i; admitted = f.admitted; conditions = f.conditions }) is l
+          let fire : fires u S ≡ true = subst (λ (x : View). fires x S ≡ true) same (is_true (fires v S) (test_fires (u ∷ us) v S f)) in
+          let head : u.head ≡ Some h = subst (λ (x : View). x.head ≡ Some h) same e in
+          swept_grows w us (brought w u S) h (equal_within (sym (brought_new w u S h head b fire)) h (with_new S h))
+      | inr i ↦
+          swept_heads w us (brought w u S) v h
+          (record { line = i; admitted = f.admitted; conditions = λ m j. brought_grows w u S m (f.conditions m j) }) e b
     ]
+
+-- so a pass that adds nothing leaves a set that has them
+swept_rests : (w : ℕ) (vs : List View) (S : Marks) → swept w vs S ≡ S → HasTheirHeads w vs S
+swept_rests w vs S e v m f is l = equal_within e m (swept_heads w vs S v m f is l)
 
 pub swept_stays : (w : ℕ) (vs : List View) (S : Marks) → HasTheirHeads w vs S → swept w vs S ≡ S
 swept_stays w vs S h = same_sets (swept_least w vs S S (λ m t. t) h) (swept_grows w vs S)
@@ -77,7 +76,7 @@ swept_more w vs S h n =
 
 -- lines without a head
 
-headless : (o : Option ℕ) → not (is_some o) ≡ true → o ≡ None
+pub headless : (o : Option ℕ) → not (is_some o) ≡ true → o ≡ None
 headless None e = refl
 headless (Some m) e = absurd (false≢true e)
 
@@ -98,29 +97,23 @@ stood_stands w (v ∷ vs) S e =
       | inr later ↦ headless_later v vs (swept w (v ∷ vs) S) (stood_stands w vs (brought w v S) later)
     ]
 
-stood_seen : (w : ℕ) (vs : List View) (S : Marks) → swept w vs S ≡ S → SomeHeadless vs S → stood w vs S ≡ true
-stood_seen w [] S e d = absurd (Memᴰ.not-nil d.fires.line)
-stood_seen w (v ∷ vs) S e d =
-    elim (Memᴰ.cases_cons d.fires.line) [
+pub swept_stood : (w : ℕ) (vs : List View) (S : Marks) (v : View) → Fires vs v S → v.head ≡ None → stood w vs S ≡ true
+swept_stood w [] S v f e = absurd (Memᴰ.not-nil f.line)
+swept_stood w (u ∷ us) S v f e =
+    elim (Memᴰ.cases_cons f.line) [
       | inl same ↦
-          let none : v.head ≡ None = ap (λ (u : View). u.head) (sym same) ∙ d.headless in
-          let test : fires v S ≡ true =
-          ap (λ (u : View). fires u S) (sym same) ∙ is_true (fires d.it S) (test_fires (v ∷ vs) d.it S d.fires) in
-          or_left (not (is_some v.head) && fires v S) (stood w vs (brought w v S))
-          (and_from (not (is_some v.head)) (fires v S) (ap (λ (o : Option ℕ). not (is_some o)) none) test)
+          let fire : fires u S ≡ true = subst (λ (x : View). fires x S ≡ true) same (is_true (fires v S) (test_fires (u ∷ us) v S f)) in
+          let none : u.head ≡ None = subst (λ (x : View). x.head ≡ None) same e in
+          or_left (not (is_some u.head) && fires u S) (stood w us (brought w u S))
+          (and_from (not (is_some u.head)) (fires u S) (ap (λ (o : Option ℕ). not (is_some o)) none) fire)
       | inr i ↦
-          or_right (not (is_some v.head) && fires v S) (stood w vs (brought w v S))
-          (ap (stood w vs) (first_rests w v vs S e)
-          ∙ stood_seen w vs S (rest_rests w v vs S e)
-          (record {
-            it = d.it;
-            fires = record { line = i; admitted = d.fires.admitted; conditions = d.fires.conditions };
-            headless = d.headless;
-          }))
+          or_right (not (is_some u.head) && fires u S) (stood w us (brought w u S))
+          (swept_stood w us (brought w u S) v
+          (record { line = i; admitted = f.admitted; conditions = λ m j. brought_grows w u S m (f.conditions m j) }) e)
     ]
 
 pub stood_decides : (w : ℕ) (vs : List View) (S : Marks) → swept w vs S ≡ S → Decides (stood w vs S) (SomeHeadless vs S)
-stood_decides w vs S e = ((λ t. subst (SomeHeadless vs) e (stood_stands w vs S t)), stood_seen w vs S e)
+stood_decides w vs S e = ((λ t. subst (SomeHeadless vs) e (stood_stands w vs S t)), λ d. swept_stood w vs S d.it d.fires d.headless)
 
 pub passes_stand : PassesStand
 passes_stand =
@@ -128,6 +121,8 @@ passes_stand =
       grows = swept_grows;
       of_width = swept_width;
       least = swept_least;
+      heads = swept_heads;
+      told = swept_stood;
       rests = swept_rests;
       stays = swept_stays;
       more = swept_more;

@@ -1,9 +1,9 @@
 -- One line's turn in a pass.
-use Rattle.std.proofs.Common.{◌≡◌, ℕ, ◌<◌, ◌≤◌, Bool, true, false, cond, T, ltb, Some, None, Option, refl, ap, ◌∙◌, ltb→lt}
-use Rattle.std.proofs.lemmas.Bool.{cond-true, cond-false, cond_both, lt-ltb, le-ltb}
+use Rattle.std.proofs.Common.{◌≡◌, ℕ, ◌<◌, Bool, true, false, cond, T, ltb, Some, None, Option, refl, sym, ap, ◌∙◌, ltb→lt}
+use Rattle.std.proofs.lemmas.Bool.{cond-true, cond_both, lt-ltb}
 use Rattle.marks.specs.Sets.{Marks, ◌∈◌, ◌⊆◌, OfWidth, with_mark}
-use Rattle.marks.proofs.Sets.{with_inside, holds}
-use Rattle.readings.proofs.Sets.{with_old, with_within}
+use Rattle.marks.proofs.Sets.{equal_within, with_inside, holds}
+use Rattle.readings.proofs.Sets.{with_new, with_old, with_within}
 use Rattle.lines.specs.Passes.{View, fires, with_head, brought}
 
 cond_same : {A : Type 0} (b : Bool) (x : A) → cond b x x ≡ x
@@ -18,20 +18,18 @@ module _ (w : ℕ) (v : View) (S : Marks) where
   pub brought_headless : v.head ≡ None → brought w v S ≡ S
   brought_headless e = brought_as None e ∙ cond_same (fires v S) S
 
-  pub brought_past : (m : ℕ) → v.head ≡ Some m → w ≤ m → brought w v S ≡ S
-  brought_past m e h =
-      brought_as (Some m) e ∙ ap (λ (X : Marks). cond (fires v S) X S) (cond-false (ltb m w) (with_mark S m) S (le-ltb m w h))
-      ∙ cond_same (fires v S) S
-
   -- where the head is
   pub brought_new : (m : ℕ) → v.head ≡ Some m → m < w → fires v S ≡ true → brought w v S ≡ with_mark S m
   brought_new m e h f =
       brought_as (Some m) e ∙ cond-true (fires v S) (cond (ltb m w) (with_mark S m) S) S f ∙ cond-true (ltb m w) (with_mark S m) S (lt-ltb m w h)
 
 -- the set grows, by a mark of the width
-head_grows : (w : ℕ) (o : Option ℕ) (S : Marks) → S ⊆ with_head w o S
+pub head_grows : (w : ℕ) (o : Option ℕ) (S : Marks) → S ⊆ with_head w o S
 head_grows w None S m t = t
 head_grows w (Some k) S m t = cond_both (ltb k w) (with_mark S k) S (λ X. m ∈ X) (λ _. with_old S k m t) (λ _. t)
+
+pub head_new : (w m : ℕ) (S : Marks) → m < w → m ∈ with_head w (Some m) S
+head_new w m S h = equal_within (sym (cond-true (ltb m w) (with_mark S m) S (lt-ltb m w h))) m (with_new S m)
 
 pub brought_grows : (w : ℕ) (v : View) (S : Marks) → S ⊆ brought w v S
 brought_grows w v S m t = cond_both (fires v S) (with_head w v.head S) S (λ X. m ∈ X) (λ _. head_grows w v.head S m t) (λ _. t)

@@ -4,4 +4,11 @@ pub mod Lawful
 pub mod Props
 pub mod Passes
 pub mod Views
+pub mod Agendas
+pub mod AllLines
+pub mod Growths
+pub mod Slots
+pub mod Indexes
 pub mod Theorems
+pub mod Brings
+pub mod Follows

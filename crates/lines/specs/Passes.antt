@@ -1,11 +1,10 @@
--- What one pass over lines does to a set: it goes through them in their order, and brings in each whose conditions stand at the
--- set as it then is.
-use Rattle.std.specs.Prelude.{◌≡◌, ℕ, Bool, false, cond, not, ◌&&◌, ◌||◌, List, [], ◌∷◌, is_some, Some, None, Decides, Option, nat_lt}
-use Rattle.marks.specs.declared.set.MarkSet.{MarkSet}
+-- What a pass over lines does: it goes through them in an order, and brings in each whose conditions stand at the set as it then
+-- is.
+use Rattle.std.specs.Prelude.{◌≡◌, ℕ, Bool, false, cond, not, ◌&&◌, ◌||◌, List, [], ◌∷◌, is_some, map, Some, None, Option, nat_lt}
 use Rattle.marks.specs.MarkSets.{marks_of, IsSet}
-use Rattle.marks.specs.Sets.{Marks, with_mark}
+use Rattle.marks.specs.Sets.{Marks, with_mark, ◌∪◌, ◌∖◌}
 use Rattle.readings.specs.Computed.{has_all}
-use Rattle.lines.specs.declared.pass.Passed.{Passed}
+use Rattle.lines.specs.declared.growth.Growth.{Growth}
 
 -- What a pass sees of a line: whether it is admitted, its conditions, and its head, where it has one. (Denials and bars have
 -- none.)
@@ -13,6 +12,10 @@ pub record View : Type 0 where
   pub admitted : Bool
   pub conditions : List ℕ
   pub head : Option ℕ
+
+-- the lists of the lines' conditions
+abbrev pub conditions_of : List View → List (List ℕ)
+conditions_of = map (λ v. v.conditions)
 
 -- whether the line is admitted and its conditions stand at the set
 abbrev pub fires : View → Marks → Bool
@@ -37,9 +40,10 @@ abbrev pub stood : ℕ → List View → Marks → Bool
 stood w [] S = false
 stood w (v ∷ vs) S = (not (is_some v.head) && fires v S) || stood w vs (brought w v S)
 
--- A pass over lines that are seen as vs turns the set `before` into the set `after` and answers p.
-pub record Passes (vs : List View) (before after : MarkSet) (p : Passed) : Type 0 where
-  pub set : IsSet after before.width (swept before.width vs (marks_of before))
-  -- it answers that nothing was added exactly when the marks are the same as before
-  pub added : Decides (not p.added) (marks_of after ≡ marks_of before)
-  pub stood : p.stood ≡ stood before.width vs (marks_of before)
+-- A pass over lines that are seen as vs turns the growth `before` into the growth `after`.
+pub record Passes (vs : List View) (before after : Growth) : Type 0 where
+  pub set : IsSet after.set before.set.width (swept before.set.width vs (marks_of before.set))
+  -- the marks that it added are fresh, besides those that were
+  pub fresh : marks_of after.fresh ≡ marks_of before.fresh ∪ (marks_of after.set ∖ marks_of before.set)
+  -- it remembers whether a line without a head fired, in this pass or before
+  pub told : after.stood ≡ (before.stood || stood before.set.width vs (marks_of before.set))

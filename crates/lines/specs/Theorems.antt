@@ -59,7 +59,10 @@ pub record PassesStand : Type 0 where
   pub of_width : (w : ℕ) (vs : List View) (S : Marks) → OfWidth w S → OfWidth w (swept w vs S)
   -- it grows by heads alone: it stays within every set around it that has the heads of the lines that fire there
   pub least : (w : ℕ) (vs : List View) (S Z : Marks) → S ⊆ Z → HasTheirHeads w vs Z → swept w vs S ⊆ Z
-  -- a pass that adds nothing leaves a set that has them, and such a set is left as it is
+  -- it brings in the heads of the lines that fire at the set it began with, and tells of a line without a head that fires there
+  pub heads : (w : ℕ) (vs : List View) (S : Marks) (v : View) (m : ℕ) → Fires vs v S → v.head ≡ Some m → m < w → m ∈ swept w vs S
+  pub told : (w : ℕ) (vs : List View) (S : Marks) (v : View) → Fires vs v S → v.head ≡ None → stood w vs S ≡ true
+  -- a pass that adds nothing leaves a set that has these heads, and such a set is left as it is
   pub rests : (w : ℕ) (vs : List View) (S : Marks) → swept w vs S ≡ S → HasTheirHeads w vs S
   pub stays : (w : ℕ) (vs : List View) (S : Marks) → HasTheirHeads w vs S → swept w vs S ≡ S
   -- a pass that adds makes the set greater

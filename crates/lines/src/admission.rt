@@ -27,6 +27,10 @@ impl Line<Admission> for FareLine {
         self.conditions.all_in(set)
     }
 
+    fn condition(&self, place: usize) -> Option<u16> {
+        self.conditions.used().get(place).copied()
+    }
+
     fn brings(&self) -> Option<u16> {
         Some(self.head)
     }

@@ -36,6 +36,10 @@ impl Line<()> for Bar {
         set.contains(self.low) && set.contains(self.high)
     }
 
+    fn condition(&self, place: usize) -> Option<u16> {
+        [self.low, self.high].get(place).copied()
+    }
+
     fn brings(&self) -> Option<u16> {
         None
     }

@@ -7,6 +7,9 @@ use crate::list::MarkList;
 // How many fare lines there may be at most.
 pub const MOST_FARES: usize = 1024;
 
+/// How many conditions they have at most, all together.
+pub const FARE_CONDITIONS: usize = 8192;
+
 // The head follows if all conditions hold, unless one of the unless-marks does.
 #[derive(Clone, Copy, Debug, Default, PartialEq)]
 pub struct FareLine {

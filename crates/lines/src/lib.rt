@@ -3,9 +3,13 @@
 #![tactic(auto)]
 
 pub mod admission;
+pub mod agenda;
 pub mod bar;
+pub mod bring;
 pub mod check;
 pub mod fare;
+pub mod growth;
+pub mod index;
 pub mod line;
 pub mod list;
 pub mod pass;

@@ -1,5 +1,5 @@
 // What a pass asks of a record.
-ghost use Rattle.std.specs.Prelude.{◌≡◌};
+ghost use Rattle.std.specs.Prelude.{◌≡◌, slice_get};
 ghost use Rattle.marks.specs.MarkSets.{marks_of};
 ghost use Rattle.readings.specs.Computed.{has_all};
 ghost use Rattle.lines.specs.Passes.{View};
@@ -16,6 +16,10 @@ pub trait Line<G> {
     // Whether the conditions stand at the set, whatever the gate.
     fn stands(&self, set: &MarkSet) -> bool
         ensures { (g : G) → result ≡ has_all (view g self.now).conditions (marks_of set.now) };
+
+    /// The condition at a place, where there is one, whatever the gate.
+    fn condition(&self, place: usize) -> Option<u16>
+        ensures { (g : G) → result ≡ slice_get (view g self.now).conditions place };
 
     // The head, where there is one, whatever the gate.
     fn brings(&self) -> Option<u16>

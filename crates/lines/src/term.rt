@@ -15,6 +15,9 @@ use marks::set::MarkSet;
 // How many term lines there may be at most.
 pub const MOST_TERMS: usize = 512;
 
+/// How many conditions they have at most, all together.
+pub const TERM_CONDITIONS: usize = 4096;
+
 // What a term line says of its conditions.
 #[derive(Clone, Copy, Debug, Default, PartialEq)]
 pub enum Kind {
@@ -82,6 +85,10 @@ impl Line<()> for TermLine {
 
     fn stands(&self, set: &MarkSet) -> bool {
         self.conditions.all_in(set)
+    }
+
+    fn condition(&self, place: usize) -> Option<u16> {
+        self.conditions.used().get(place).copied()
     }
 
     fn brings(&self) -> Option<u16> {

@@ -30,7 +30,7 @@ upper_joined w F Y y = fun_ext (λ m. drop_to (below w m) (F m) (Y m) (y m))
 
 module _ {B : Book} {lines : List Rule} {facts : Marks} (fit : Fit B lines facts) where
   -- T lies within each closed set that has the heads at U
-  TWithin : {k : ℕ} {T U : Marks} → Run (first_method B lines facts) k T U → (Z : Marks) → OfWidth B.width Z → Closed B Z
+  pub TWithin : {k : ℕ} {T U : Marks} → Run (first_method B lines facts) k T U → (Z : Marks) → OfWidth B.width Z → Closed B Z
       → HasHeads (Admitted lines facts U) Z → T ⊆ Z
   TWithin start Z zw zc zh = none_within Z
   TWithin (round run r) Z zw zc zh = r.full.least Z zw (none_within Z) zc (λ q a. zh q (admitted_falls _ (moves fit run r).1 a))
@@ -69,7 +69,7 @@ module _ {B : Book} {lines : List Rule} {facts : Marks} (fit : Fit B lines facts
 
   -- one round, from a pair that the first method has reached
   module _ {k : ℕ} {T : Marks} (F : Marks) (run : Run (first_method B lines facts) k T (outside B.width F)) where
-    grown_full : {T' : Marks} → LeastClosed B T (PastExceptions B lines facts F) T'
+    pub grown_full : {T' : Marks} → LeastClosed B T (PastExceptions B lines facts F) T'
         → Full B lines facts (outside B.width F) T'
     grown_full g =
         record {
@@ -108,7 +108,7 @@ module _ {B : Book} {lines : List Rule} {facts : Marks} (fit : Fit B lines facts
           least = λ Z zw za zc zh. y.least Z zw za zc (λ r n c. zh r (allowed F T' n) c);
         }
 
-    guarded_kept : {T' Y : Marks} → Y ⊆ outside B.width F → Guarded B lines facts T' Y
+    pub guarded_kept : {T' Y : Marks} → Y ⊆ outside B.width F → Guarded B lines facts T' Y
         → LeastClosed B no_marks (NotRefuted B lines facts F T') Y
     guarded_kept {T'} {Y} o p =
         record {

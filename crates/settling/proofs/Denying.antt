@@ -10,17 +10,18 @@ use Rattle.marks.specs.declared.refusal.Refusal.{Refusal}
 use Rattle.marks.specs.declared.set.MarkSet.{MarkSet}
 use Rattle.marks.specs.MarkSets.{marks_of, IsSet, Unchanged}
 use Rattle.marks.specs.Refusals.{Refuses, Gives, Test}
-use Rattle.marks.specs.Sets.{Marks, ◌∈◌, ◌⊆◌, OfWidth, no_marks, below, with_mark, ◌∖◌, Lowest}
+use Rattle.marks.specs.Sets.{Marks, ◌∈◌, ◌⊆◌, OfWidth, no_marks, below, with_mark, ◌∪◌, ◌∖◌, Lowest}
 use Rattle.marks.specs.Words.{held}
 use Rattle.marks.proofs.Sets.{equal_within, holds, is_true, is_false, with_inside}
 use Rattle.readings.specs.Books.{Book, Lawful, Denied, Clashes}
-use Rattle.readings.proofs.Sets.{both, right, less_in, with_old, with_new, with_within}
+use Rattle.readings.proofs.Sets.{both, right, or_left, or_right, or_cases, decide, less_in, with_old, with_new, with_within}
 use Rattle.readings.specs.Rules.{Rule, Counts, line, stands}
 use Rattle.lines.specs.Lawful.{LawfulFare}
 use Rattle.lines.specs.Records.{rule_of}
 use Rattle.lines.specs.declared.fare.FareLine.{FareLine}
 use Rattle.settling.specs.Calls.{GoesWith}
-use Rattle.settling.specs.Growth.{rules_of, HeadIn, denied_below, DeniesHeads}
+use Rattle.settling.specs.Denials.{HeadIn, denied_below, DeniesHeads, OnlyDenied}
+use Rattle.settling.specs.Growth.{rules_of}
 use Rattle.settling.proofs.Answering.{gives_all}
 use Rattle.settling.proofs.Fares.{all_in_list}
 use Rattle.lines.proofs.Meaning.{lawful_lines_fit}
@@ -103,6 +104,10 @@ denied_all B S C from w inside none = fun_ext (λ k. go k (cases_Bool (C k)))
 pub denied_none : (B : Book) (S C : Marks) → no_marks ≡ denied_below B S C 0
 denied_none B S C = fun_ext (λ k. sym (and_left (ltb k 0) (C k && B.clash (with_mark S k)) (le-ltb k 0 (omega arith))))
 
+-- an empty set holds only denied heads
+pub no_heads : {B : Book} {lines : List FareLine} {facts : MarkSet} {S : Marks} (D : MarkSet) → D.width ≡ B.width → marks_of D ≡ no_marks → OnlyDenied B lines facts S D
+no_heads D width none = record { width = width; denied = λ r c t. absurd (equal_within none r.head t) }
+
 module _ (B : Book) (law : Lawful B) (lines : List FareLine) (facts at : MarkSet) (goes : GoesWith B lines facts) (width : at.width ≡ B.width) where
   abbrev S : Marks
   S = marks_of at
@@ -119,11 +124,13 @@ module _ (B : Book) (law : Lawful B) (lines : List FareLine) (facts at : MarkSet
   with_wide m t = with_inside B.width S m (ltb→lt m B.width t) wide
 
   -- where the book clashes at the set, it denies everything there
-  pub denies_all : (D : MarkSet) → IsSet D B.width (below B.width) → Clashes B S → DeniesHeads B lines facts at D
+  pub denies_all : (D : MarkSet) → IsSet D B.width (below B.width) → Clashes B S → DeniesHeads B lines facts S D
   denies_all D is clash =
       record {
-        width = is.width;
-        held = λ r c _. law.clash_grows S (with_mark S r.head) wide (with_wide r.head (head_within r c)) (with_old S r.head) clash;
+        only = record {
+          width = is.width;
+          denied = λ r c _. law.clash_grows S (with_mark S r.head) wide (with_wide r.head (head_within r c)) (with_old S r.head) clash;
+        };
         others = λ r c _. equal_within (sym is.marks) r.head (head_within r c);
       }
 
@@ -144,17 +151,31 @@ module _ (B : Book) (law : Lawful B) (lines : List FareLine) (facts at : MarkSet
       subst (λ (x : Rule). x.head ∈ all) from.2
       (all_in_list (HeadIn facts.width all) lines h l from.1 (let e = goes.width in let k = law_of.head in omega arith))
 
-  -- so it is enough to try the other heads
-  pub denies_tried : (all : Marks) (D : MarkSet) → marks_of facts ⊆ all → AllByRecursion (HeadIn facts.width all) lines → (Clashes B S → ⊥)
-      → IsSet D B.width (denied_below B S (all ∖ B.closure S) B.width) → DeniesHeads B lines facts at D
-  denies_tried all D f h none is =
+  -- so it is enough to try the other heads, but for those that are known to be denied
+  pub denies_tried : (all : Marks) (known D : MarkSet) → marks_of facts ⊆ all → AllByRecursion (HeadIn facts.width all) lines → (Clashes B S → ⊥)
+      → OnlyDenied B lines facts S known → IsSet D B.width (denied_below B S ((all ∖ B.closure S) ∖ marks_of known) B.width ∪ marks_of known) → DeniesHeads B lines facts S D
+  denies_tried all known D f h none only is =
       record {
-        width = is.width;
-        held = λ r c t.
-            let u = equal_within is.marks r.head t in
-            right ((all ∖ B.closure S) r.head) (B.clash (with_mark S r.head)) (right (below B.width r.head) _ u);
-        others = λ r c d.
-            equal_within (sym is.marks) r.head
-            (both (below B.width r.head) _ (head_within r c)
-            (both ((all ∖ B.closure S) r.head) _ (less_in all (B.closure S) r.head (head_there all f h r c) (λ t. allowed r.head none t d)) d));
+        only = record { width = is.width; denied = λ r c t. held r c (or_cases (new r.head) (K r.head) (equal_within is.marks r.head t)) };
+        others = λ r c d. equal_within (sym is.marks) r.head (found r c d (decide (K r.head)));
       }
+    where
+      K : Marks
+      K = marks_of known
+
+      tried : Marks
+      tried = (all ∖ B.closure S) ∖ K
+
+      new : Marks
+      new = denied_below B S tried B.width
+
+      held : (r : Rule) → Counts (rules_of lines) (marks_of facts) r → (r.head ∈ new) ⊎ (r.head ∈ K) → Denied B S r.head
+      held r c (inl t) = right (tried r.head) (B.clash (with_mark S r.head)) (right (below B.width r.head) _ t)
+      held r c (inr k) = only.denied r c k
+
+      found : (r : Rule) → Counts (rules_of lines) (marks_of facts) r → Denied B S r.head → (r.head ∈ K) ⊎ (r.head ∈ K → ⊥) → r.head ∈ (new ∪ K)
+      found r c d (inl k) = or_right (new r.head) (K r.head) k
+      found r c d (inr k) =
+          or_left (new r.head) (K r.head)
+          (both (below B.width r.head) _ (head_within r c)
+          (both (tried r.head) _ (less_in (all ∖ B.closure S) K r.head (less_in all (B.closure S) r.head (head_there all f h r c) (λ t. allowed r.head none t d)) k) d))

@@ -1,5 +1,5 @@
 -- Rules as a pass sees them: it brings in the heads of the admitted ones.
-use Rattle.std.proofs.Common.{◌≡◌, ℕ, T, List, [], ◌∷◌, map, Some, sym, refl, ap, ◌∙◌, subst, inl, inr, ltb→lt}
+use Rattle.std.proofs.Common.{◌≡◌, ℕ, T, List, [], ◌∷◌, map, Some, sym, refl, ap, ◌∙◌, subst, inl, inr, ltb→lt, arith}
 use mathlib.Core.List.Memᴰ
 use mathlib.Core.List.{Memᴰ}
 use Rattle.std.specs.List.{AllByRecursion}
@@ -15,7 +15,13 @@ use Rattle.lines.specs.Theorems.{HasTheirHeads}
 use Rattle.lines.specs.Views.{admits, rule_view}
 use Rattle.lines.proofs.Admitting.{admission_stands}
 use Rattle.lines.proofs.Meaning.{lawful_lines_fit}
+use Rattle.lines.specs.declared.admission.Admission.{Admission}
 use Rattle.lines.specs.declared.fare.FareLine.{FareLine}
+use Rattle.lines.specs.declared.index.Index.{Index}
+use Rattle.lines.specs.Indexes.{IsIndexOf, Indexes}
+use Rattle.lines.specs.Passes.{conditions_of}
+use Rattle.lines.specs.Views.{fare_view}
+use Rattle.lines.proofs.Short.{fares_indexed}
 use Rattle.settling.specs.Calls.{GoesWith}
 use Rattle.settling.specs.Growth.{rules_of, LineLetIn}
 
@@ -53,3 +59,11 @@ fits B law lines facts goes =
       within = lawful_lines_fit B.width lines goes.lawful.each;
       of_width = subst (λ (w : ℕ). OfWidth w (marks_of facts)) goes.width facts.inside;
     }
+
+-- and their index has room for them
+pub fares_found : {B : Book} {lines : List FareLine} {facts : MarkSet} (index : Index 8192) (gate : Admission) → GoesWith B lines facts
+    → IsIndexOf index (conditions_of (map (fare_view gate) lines)) → Indexes index (conditions_of (map (fare_view gate) lines))
+fares_found {B} {lines} {facts} index gate goes is =
+    let few = facts.few in
+    let e = goes.width in
+    fares_indexed index gate B.width lines (omega arith) goes.lawful is

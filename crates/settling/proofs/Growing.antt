@@ -1,29 +1,34 @@
 -- How a set grows, turn by turn, to the least closed set around it that has the heads of the admitted fare lines.
-use Rattle.std.proofs.Common.{◌≡◌, ℕ, ◌-◌, ◌<◌, Bool, true, false, not, List, map, sym, ap, ◌∙◌, subst, arith}
+use Rattle.std.proofs.Common.{◌≡◌, ℕ, ◌-◌, ◌<◌, Bool, true, false, not, T, List, map, sym, ap, ◌∙◌, subst, inl, inr, arith}
+use mathlib.Core.List.Memᴰ
 use mathlib.Core.List.{map-map}
-use Rattle.std.proofs.lemmas.Bool.{true≢false, false≢true, not-true, not-false}
+use Rattle.std.proofs.lemmas.Bool.{false≢true, not-true, not-false}
+use Rattle.std.proofs.lemmas.Option.{none-some}
 use Rattle.marks.specs.declared.set.MarkSet.{MarkSet}
 use Rattle.marks.specs.MarkSets.{marks_of}
-use Rattle.marks.specs.Sets.{Marks, ◌⊆◌, OfWidth, size}
-use Rattle.marks.proofs.Sets.{equal_within}
+use Rattle.marks.specs.Sets.{Marks, ◌⊆◌, below, OfWidth, size}
+use Rattle.marks.proofs.Sets.{equal_within, same_sets, holds, fails, is_false}
+use Rattle.marks.proofs.Sizes.{size_le}
 use Rattle.readings.specs.Books.{Book, Lawful, Closed}
 use Rattle.readings.specs.Rules.{Rule}
 use Rattle.readings.specs.Yields.{HasHeads}
-use Rattle.marks.proofs.Sizes.{size_le}
-use Rattle.readings.proofs.Sizes.{size_grows}
-use Rattle.lines.specs.Passes.{View, swept}
-use Rattle.lines.specs.Passes.{Passes}
+use Rattle.readings.proofs.Closing.{closed_if}
+use Rattle.readings.proofs.Sizes.{size_grows, same_or_more}
+use Rattle.lines.specs.Brings.{BringsAll, Done}
+use Rattle.lines.specs.Passes.{View}
 use Rattle.lines.specs.Records.{rule_of}
+use Rattle.lines.specs.Theorems.{HasTheirHeads, SomeHeadless}
 use Rattle.lines.specs.Views.{rule_view, fare_view}
 use Rattle.lines.specs.declared.admission.Admission.{Admission}
 use Rattle.lines.specs.declared.fare.FareLine.{FareLine}
-use Rattle.lines.specs.declared.pass.Passed.{Passed}
-use Rattle.lines.proofs.Passing.{swept_grows, swept_least, swept_rests, swept_more}
-use Rattle.books.specs.Closing.{ClosedTo}
-use Rattle.settling.specs.Calls.{LawfulFares}
-use Rattle.settling.specs.Growth.{rules_of, LineLetInBy, Grown, Turned}
-use Rattle.settling.proofs.Fares.{heads_seen, heads_brought}
 use Rattle.lines.proofs.Meaning.{lawful_lines_fit}
+use Rattle.books.specs.Closing.{ClosedTo, CleanWithin}
+use Rattle.settling.specs.Calls.{LawfulFares}
+use Rattle.settling.specs.Growth.{rules_of, LineLetInBy, Grown, Between, Turned}
+use Rattle.settling.proofs.Fares.{heads_seen, heads_brought}
+
+wide : {w : ℕ} (X : MarkSet) → X.width ≡ w → OfWidth w (marks_of X)
+wide X e = subst (λ (w : ℕ). OfWidth w (marks_of X)) e X.inside
 
 module _ {B : Book} (law : Lawful B) {lines : List FareLine} (gate : Admission) (lawful : LawfulFares B.width lines) where
   abbrev E : Marks
@@ -35,122 +40,166 @@ module _ {B : Book} (law : Lawful B) {lines : List FareLine} (gate : Admission) 
   abbrev R : Marks
   R = marks_of gate.refuted
 
-  -- the lines as a pass sees them, by their rules
-  abbrev views : List View
-  views = map (rule_view E D R) (rules_of lines)
+  abbrev P : Rule → Type 0
+  P = LineLetInBy lines gate
 
-  seen : map (fare_view gate) lines ≡ views
+  abbrev w : ℕ
+  w = B.width
+
+  -- the lines as a pass sees them, and that this is by their rules
+  abbrev vs : List View
+  vs = map (fare_view gate) lines
+
+  seen : vs ≡ map (rule_view E D R) (rules_of lines)
   seen = sym (map-map (rule_view E D R) rule_of lines)
 
-  module _ {before after : MarkSet} {p : Passed} (width : before.width ≡ B.width) (done : Passes (map (fare_view gate) lines) before after p) where
-    abbrev S : Marks
-    S = marks_of before
+  seen_in : (Z : Marks) → HasHeads P Z → HasTheirHeads w vs Z
+  seen_in Z heads = subst (λ (us : List View). HasTheirHeads w us Z) (sym seen) (heads_seen (rules_of lines) E D R Z w heads)
 
-    -- the set after the pass
-    swept_to : marks_of after ≡ swept B.width views S
-    swept_to = done.set.marks ∙ ap (λ (w : ℕ). swept w (map (fare_view gate) lines) S) width ∙ ap (λ (vs : List View). swept B.width vs S) seen
+  seen_from : (Z : Marks) → HasTheirHeads w vs Z → HasHeads P Z
+  seen_from Z heads =
+      heads_brought (rules_of lines) E D R Z w (lawful_lines_fit w lines lawful.each) (subst (λ (us : List View). HasTheirHeads w us Z) seen heads)
 
-    around : S ⊆ marks_of after
-    around m t = equal_within (sym swept_to) m (swept_grows B.width views S m t)
+  -- every fare line has a head
+  headed : (Z : Marks) → SomeHeadless vs Z → ⊥
+  headed Z s =
+      let p = Memᴰ.of_map (fare_view gate) lines s.fires.line in
+      none-some (rule_of p.0).head (sym (ap (λ (u : View). u.head) p.2 ∙ s.headless))
 
-    within : (Z : Marks) → HasHeads (LineLetInBy lines gate) Z → S ⊆ Z → marks_of after ⊆ Z
-    within Z heads s m t = swept_least B.width views S Z s (heads_seen (rules_of lines) E D R Z B.width heads) m (equal_within swept_to m t)
+  -- the lines were brought in, and the set was closed
+  module _ {before lined after : MarkSet} {told clash : Bool} (width : before.width ≡ w) (brings : BringsAll vs before lined told) (to : ClosedTo B lined after clash) where
+    lined_width : lined.width ≡ w
+    lined_width = brings.some.width ∙ width
 
-    of_width : OfWidth B.width S → OfWidth B.width (marks_of after)
-    of_width h = subst (λ (w : ℕ). OfWidth w (marks_of after)) (done.set.width ∙ width) after.inside
+    inside : OfWidth w (marks_of lined)
+    inside = wide lined lined_width
 
-    -- a turn in which nothing was brought in
-    pub turned_none : not p.added ≡ true → Turned B (LineLetInBy lines gate) before after false
-    turned_none is =
-        let none : p.added ≡ false = not-true p.added is in
-        let same : marks_of after ≡ S = done.added.0 (ap not none) in
-        let rests : swept B.width views S ≡ S = sym swept_to ∙ same in
+    lined_heads : HasHeads P (marks_of lined)
+    lined_heads = seen_from (marks_of lined) (subst (λ (n : ℕ). HasTheirHeads n vs (marks_of lined)) width brings.heads)
+
+    grows : marks_of lined ⊆ marks_of after
+    grows m t = equal_within (sym to.set.marks) m (law.extensive (marks_of lined) inside m t)
+
+    pub closed_around : marks_of before ⊆ marks_of after
+    closed_around m t = grows m (brings.some.around m t)
+
+    pub closed_least : (Z : Marks) → OfWidth w Z → Closed B Z → HasHeads P Z → marks_of before ⊆ Z → marks_of after ⊆ Z
+    closed_least Z z c heads s m t =
+        equal_within c m
+        (law.monotone (marks_of lined) Z inside z (brings.some.least Z s (subst (λ (n : ℕ). HasTheirHeads n vs Z) (sym width) (seen_in Z heads))) m
+        (equal_within to.set.marks m t))
+
+    -- without a clash there may be another turn
+    pub closed_between : clash ≡ false → Between B P lined after
+    closed_between e =
         record {
-          width = done.set.width ∙ width;
-          around = around;
-          least = λ Z z c heads s. within Z heads s;
-          more = λ e. absurd (false≢true e);
-          closed = λ c. subst (Closed B) (sym same) c;
-          rests = λ _.
-              subst (HasHeads (LineLetInBy lines gate)) (sym same)
-              (heads_brought (rules_of lines) E D R S B.width (lawful_lines_fit B.width lines lawful.each) (swept_rests B.width views S rests));
+          lined = lined_width;
+          width = to.set.width;
+          heads = lined_heads;
+          within = grows;
+          closed = subst (Closed B) (sym to.set.marks) (law.idempotent (marks_of lined) inside);
+          quiet =
+              is_false (B.clash (marks_of after))
+              (λ t.
+              fails (sym to.clash ∙ e) (law.clash_comes_back (marks_of lined) inside (subst (λ (X : Marks). T (B.clash X)) to.set.marks t)));
         }
 
-    -- a turn in which something was, and the set was closed
-    pub turned_some : {closed : MarkSet} {clash : Bool} → not p.added ≡ false → ClosedTo B after closed clash → Turned B (LineLetInBy lines gate) before closed true
-    turned_some {closed} not_none to =
-        let some : p.added ≡ true = not-false p.added not_none in
-        let w = B.width in
-        let wide : OfWidth w S = subst (λ (n : ℕ). OfWidth n S) width before.inside in
-        let wide' = of_width wide in
-        let differ : swept w views S ≡ S → ⊥ = λ e. true≢false (sym some ∙ not-true p.added (done.added.1 (swept_to ∙ e))) in
-        let more = swept_more w views S wide differ in
-        let swelled : marks_of after ⊆ B.closure (marks_of after) = law.extensive (marks_of after) wide' in
-        let grown = size_grows w (marks_of after) (B.closure (marks_of after)) swelled in
-        let is = to.set.marks in
+    -- with one the set has all marks
+    pub closed_clash : clash ≡ true → Closed B (marks_of after) × HasHeads P (marks_of after)
+    closed_clash e =
+        let all : below w ⊆ marks_of after =
+        λ m t. equal_within (sym to.set.marks) m (equal_within (sym (law.clash_gives_all (marks_of lined) inside (holds (sym to.clash ∙ e)))) m t) in (
+          closed_if B law (marks_of after) (wide after to.set.width) (λ m t. all m (law.of_width (marks_of after) (wide after to.set.width) m t)),
+          λ r p a. all r.head (lawful_lines_fit w lines lawful.each r p.line).head,
+        )
+
+    pub closed_grown : Closed B (marks_of after) × HasHeads P (marks_of after) → Grown B P before after
+    closed_grown ends =
         record {
           width = to.set.width;
-          around = λ m t. equal_within (sym is) m (swelled m (around m t));
-          least = λ Z z c heads s m t.
-              equal_within c m (law.monotone (marks_of after) Z wide' z (within Z heads s) m (equal_within is m t));
-          more = λ _.
-              subst (λ (X : Marks). size w S < size w X) (sym is)
-              (let a = ap (λ (X : Marks). size w X) swept_to in omega arith);
-          closed = λ _. subst (Closed B) (sym is) (law.idempotent (marks_of after) wide');
-          rests = λ e. absurd (true≢false e);
+          least = record {
+            of_width = wide after to.set.width;
+            around = closed_around;
+            closed = ends.0;
+            heads = ends.1;
+            least = λ Z z s c heads. closed_least Z z c heads s;
+          };
         }
 
--- X came from A by turns: it is closed, and lies around A and within every closed set around A that has the heads
-pub record Growing (B : Book) (P : Rule → Type 0) (A : MarkSet) (X : MarkSet) : Type 0 where
-  pub width : X.width ≡ B.width
-  pub around : marks_of A ⊆ marks_of X
-  pub closed : Closed B (marks_of X)
-  pub least : (Z : Marks) → OfWidth B.width Z → Closed B Z → HasHeads P Z → marks_of A ⊆ Z → marks_of X ⊆ Z
-
-wide : {w : ℕ} (X : MarkSet) → X.width ≡ w → OfWidth w (marks_of X)
-wide X e = subst (λ (w : ℕ). OfWidth w (marks_of X)) e X.inside
-
-module _ {B : Book} (law : Lawful B) {P : Rule → Type 0} where
-  -- a set that was just closed
-  pub growing_start : {A X : MarkSet} {clash : Bool} → A.width ≡ B.width → ClosedTo B A X clash → Growing B P X X
-  growing_start {A} e to =
+  -- a set between two turns is done where its lines were brought in
+  pub between_done : {L X : MarkSet} → Between B P L X → Done X.width vs (marks_of L) (marks_of X)
+  between_done {L} between =
       record {
-        width = to.set.width;
-        around = λ m t. t;
-        closed = subst (Closed B) (sym to.set.marks) (law.idempotent (marks_of A) (wide A e));
-        least = λ Z z c heads s. s;
+        within = between.within;
+        heads = λ v h f e b. between.within h (seen_in (marks_of L) between.heads v h f e (subst (λ (n : ℕ). h < n) between.width b));
+        quiet = headed (marks_of L);
       }
 
-  pub growing_on : {A X Y : MarkSet} {added : Bool} → Growing B P A X → Turned B P X Y added → Growing B P A Y
-  growing_on g t =
+  pub between_clean : {L X lined : MarkSet} {told : Bool} → Between B P L X → BringsAll vs X lined told → CleanWithin B (marks_of lined) (marks_of X)
+  between_clean between brings = record { closed = between.closed; quiet = between.quiet; within = brings.some.around }
+
+  -- a turn where closing had added nothing
+  pub turned_none : {L X : MarkSet} → Between B P L X → marks_of X ≡ marks_of L → Turned B P L X L X false
+  turned_none between same =
       record {
-        width = t.width;
+        width = between.width;
+        around = λ m t. t;
+        least = λ Z z c h s. s;
+        goes_on = λ e. absurd (false≢true e);
+        ends = λ _. (between.closed, subst (HasHeads P) (sym same) between.heads);
+      }
+
+  -- and one where it had
+  pub turned_some : {L X lined after : MarkSet} {told clash more : Bool} → Between B P L X → (marks_of X ≡ marks_of L → ⊥) → BringsAll vs X lined told
+      → ClosedTo B lined after clash → more ≡ not clash → Turned B P L X lined after more
+  turned_some {L} {X} {lined} {after} {told} {clash} {more} between differ brings to is =
+      record {
+        width = to.set.width;
+        around = closed_around between.width brings to;
+        least = closed_least between.width brings to;
+        goes_on = λ e. (
+          closed_between between.width brings to (not-true clash (sym is ∙ e)),
+          elim (same_or_more w (marks_of L) (marks_of X) (wide X between.width) between.within) [
+            | inl back ↦ absurd (differ (same_sets back between.within))
+            | inr greater ↦ let rest = size_grows w (marks_of X) (marks_of lined) brings.some.around in omega arith
+          ],
+        );
+        ends = λ e. closed_clash between.width brings to (not-false clash (sym is ∙ e));
+      }
+
+-- X came from A by turns, the last of which brought the lines in at L
+pub record Growing (B : Book) (P : Rule → Type 0) (A L X : MarkSet) : Type 0 where
+  pub between : Between B P L X
+  pub around : marks_of A ⊆ marks_of X
+  pub least : (Z : Marks) → OfWidth B.width Z → Closed B Z → HasHeads P Z → marks_of A ⊆ Z → marks_of X ⊆ Z
+
+module _ {B : Book} {P : Rule → Type 0} where
+  pub growing_on : {A L X L' X' : MarkSet} {more : Bool} → Growing B P A L X → Turned B P L X L' X' more → more ≡ true → Growing B P A L' X'
+  growing_on g t e =
+      record {
+        between = (t.goes_on e).0;
         around = λ m u. t.around m (g.around m u);
-        closed = t.closed g.closed;
         least = λ Z z c heads s. t.least Z z c heads (g.least Z z c heads s);
       }
 
-  -- a turn that brought nothing in ends it: with the closing before the first turn, A has grown to Y
-  pub growing_end : {A C X Y : MarkSet} {clash added : Bool} → A.width ≡ B.width → ClosedTo B A C clash → Growing B P C X → Turned B P X Y added → added ≡ false → Grown B P A Y
-  growing_end {A} {C} {X} {Y} e to g t none =
-      let h = growing_on g t in
-      let is = to.set.marks in
+  pub growing_end : {A L X L' X' : MarkSet} {more : Bool} → Growing B P A L X → Turned B P L X L' X' more → more ≡ false → Grown B P A X'
+  growing_end {X' = X'} g t e =
+      let ends = t.ends e in
       record {
-        width = h.width;
+        width = t.width;
         least = record {
-          of_width = wide Y h.width;
-          around = λ m u. h.around m (equal_within (sym is) m (law.extensive (marks_of A) (wide A e) m u));
-          closed = h.closed;
-          heads = t.rests none;
-          least = λ Z z s c heads.
-              h.least Z z c heads (λ m u. equal_within c m (law.monotone (marks_of A) Z (wide A e) z s m (equal_within is m u)));
+          of_width = wide X' t.width;
+          around = λ m u. t.around m (g.around m u);
+          closed = ends.0;
+          heads = ends.1;
+          least = λ Z z s c heads. t.least Z z c heads (g.least Z z c heads s);
         };
       }
 
--- the set that is left to grow falls
-pub room_falls : {B : Book} {P : Rule → Type 0} {X Y : MarkSet} {added : Bool} → Turned B P X Y added → added ≡ true
-    → B.width - size B.width (marks_of Y) < B.width - size B.width (marks_of X)
-room_falls {B} {Y = Y} t some =
-    let more = t.more some in
-    let le = size_le B.width (marks_of Y) in
-    omega arith
+  -- the room that is left for the lines falls
+  pub room_falls : {L X L' X' : MarkSet} {more : Bool} → Turned B P L X L' X' more → more ≡ true
+      → B.width - size B.width (marks_of L') < B.width - size B.width (marks_of L)
+  room_falls {L' = L'} t e =
+      let more = (t.goes_on e).1 in
+      let le = size_le B.width (marks_of L') in
+      omega arith

@@ -3,6 +3,8 @@ pub mod Fares
 pub mod Growing
 pub mod Letting
 pub mod Denying
+pub mod Grouping
+pub mod Starting
 pub mod Yielding
 pub mod Rounding
 pub mod FirstGoing

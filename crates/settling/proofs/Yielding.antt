@@ -6,15 +6,18 @@ use Rattle.marks.specs.Sets.{Marks, no_marks, below, outside}
 use Rattle.marks.proofs.Sets.{equal_within}
 use Rattle.readings.specs.Books.{Book}
 use Rattle.readings.specs.Rules.{Rule, Counts, Fit, AllIn, NoneIn}
-use Rattle.readings.specs.Yields.{LeastClosed}
+use Rattle.readings.specs.Yields.{LeastClosed, Admitted}
 use Rattle.readings.proofs.Closing.{least_by}
 use Rattle.readings.proofs.Sets.{less_out, not_outside}
 use Rattle.readings.proofs.Yields.{counts_within}
 use Rattle.lines.specs.declared.admission.Admission.{Admission}
 use Rattle.lines.specs.declared.fare.FareLine.{FareLine}
-use Rattle.settling.specs.Calls.{FullYield, GuardedYield}
-use Rattle.settling.specs.Growth.{rules_of, LetInBy, Grown, DeniesHeads}
-use Rattle.settling.specs.Rounding.{GrownPast, KeptAt}
+use Rattle.settling.specs.Calls.{FullYield}
+use Rattle.settling.specs.Denials.{DeniesHeads}
+use Rattle.settling.specs.Growth.{rules_of, LetInBy, Grown}
+use Rattle.settling.specs.Kept.{KeptAt, WithinLeast}
+use Rattle.settling.specs.Rounding.{GrownPast}
+use Rattle.settling.proofs.Starting.{least_around}
 
 module _ {B : Book} (lines : List FareLine) (facts : MarkSet) (gate : Admission) {start x : MarkSet} (grown : Grown B (LetInBy lines facts gate) start x) where
   abbrev S : Marks
@@ -26,44 +29,22 @@ module _ {B : Book} (lines : List FareLine) (facts : MarkSet) (gate : Admission)
   abbrev R : Marks
   R = marks_of gate.refuted
 
-  from_nothing : S ≡ no_marks → LeastClosed B no_marks (LetInBy lines facts gate) (marks_of x)
-  from_nothing e = subst (λ (Y : Marks). LeastClosed B Y (LetInBy lines facts gate) (marks_of x)) e grown.least
-
-  pub full_grown : S ≡ no_marks → D ≡ no_marks → R ≡ no_marks → FullYield B lines facts gate.exceptions x
-  full_grown s d r =
+  -- the rules that S admits, where no head is denied and no condition refuted
+  admitted_only : D ≡ no_marks → R ≡ no_marks → LeastClosed B S (Admitted (rules_of lines) (marks_of facts) (marks_of gate.exceptions)) (marks_of x)
+  admitted_only d r =
+      least_by
+      (λ y l. record { counts = l.counts; exceptions = l.admitted.exceptions })
+      (λ y l.
       record {
-        width = grown.width;
-        yield =
-            least_by
-            (λ y l. record { counts = l.counts; exceptions = l.admitted.exceptions })
-            (λ y l.
-            record {
-              counts = l.counts;
-              admitted = record { exceptions = l.exceptions; head = equal_within d y.head; conditions = λ m _. equal_within r m };
-            })
-            (from_nothing s);
-      }
+        counts = l.counts;
+        admitted = record { exceptions = l.exceptions; head = equal_within d y.head; conditions = λ m _. equal_within r m };
+      })
+      grown.least
 
-  pub guarded_grown : S ≡ no_marks → DeniesHeads B lines facts gate.exceptions gate.denied → R ≡ no_marks → GuardedYield B lines facts gate.exceptions x
-  guarded_grown s heads r =
-      record {
-        width = grown.width;
-        yield =
-            least_by
-            (λ y l.
-            record {
-              admitted = record { counts = l.counts; exceptions = l.admitted.exceptions };
-              head = λ d. l.admitted.head (heads.others y l.counts d);
-            })
-            (λ y l.
-            record {
-              counts = l.admitted.counts;
-              admitted = record { exceptions = l.admitted.exceptions; head = λ t. l.head (heads.held y l.admitted.counts t); conditions = λ m _. equal_within r m };
-            })
-            (from_nothing s);
-      }
+  pub full_grown : WithinLeast B S (Admitted (rules_of lines) (marks_of facts) (marks_of gate.exceptions)) → D ≡ no_marks → R ≡ no_marks → FullYield B lines facts gate.exceptions x
+  full_grown within d r = record { width = grown.width; yield = least_around within (admitted_only d r) }
 
-  pub kept_grown : S ≡ no_marks → DeniesHeads B lines facts gate.exceptions gate.denied → KeptAt B lines facts gate.exceptions gate.refuted x
+  pub kept_grown : S ≡ no_marks → DeniesHeads B lines facts (marks_of gate.exceptions) gate.denied → KeptAt B lines facts gate.exceptions gate.refuted x
   kept_grown s heads =
       record {
         width = grown.width;
@@ -79,9 +60,9 @@ module _ {B : Book} (lines : List FareLine) (facts : MarkSet) (gate : Admission)
             (λ y l.
             record {
               counts = l.counts;
-              admitted = record { exceptions = l.exceptions; head = λ t. l.head (heads.held y l.counts t); conditions = l.conditions };
+              admitted = record { exceptions = l.exceptions; head = λ t. l.head (heads.only.denied y l.counts t); conditions = l.conditions };
             })
-            (from_nothing s);
+            (subst (λ (A : Marks). LeastClosed B A (LetInBy lines facts gate) (marks_of x)) s grown.least);
       }
 
   module _ (fit : Fit B (rules_of lines) (marks_of facts)) (F : MarkSet) (outer : marks_of gate.exceptions ≡ outside B.width (marks_of F)) where

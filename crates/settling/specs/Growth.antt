@@ -1,10 +1,10 @@
 -- The rules that a gate lets count, and what it is to have grown a set by them and a book.
-use Rattle.std.specs.Prelude.{◌≡◌, ℕ, ◌<◌, Bool, true, false, ◌&&◌, List, map, nat_lt}
+use Rattle.std.specs.Prelude.{◌≡◌, ◌<◌, Bool, true, false, List, map}
 use mathlib.Core.List.{Memᴰ}
 use Rattle.marks.specs.declared.set.MarkSet.{MarkSet}
 use Rattle.marks.specs.MarkSets.{marks_of}
-use Rattle.marks.specs.Sets.{Marks, ◌∈◌, ◌⊆◌, OfWidth, with_mark, size}
-use Rattle.readings.specs.Books.{Book, Closed, Denied}
+use Rattle.marks.specs.Sets.{Marks, ◌⊆◌, OfWidth, size}
+use Rattle.readings.specs.Books.{Book, Closed}
 use Rattle.readings.specs.Rules.{Rule, Counts}
 use Rattle.readings.specs.Yields.{HasHeads, LeastClosed}
 use Rattle.lines.specs.Records.{rule_of}
@@ -38,26 +38,21 @@ pub record Grown (B : Book) (P : Rule → Type 0) (before after : MarkSet) : Typ
   pub width : after.width ≡ B.width
   pub least : LeastClosed B (marks_of before) P (marks_of after)
 
--- one turn of growing: some heads were brought in and the set was closed again, or there was none to bring in
-pub record Turned (B : Book) (P : Rule → Type 0) (before after : MarkSet) (added : Bool) : Type 0 where
-  pub width : after.width ≡ B.width
-  pub around : marks_of before ⊆ marks_of after
+-- between two turns: L has the heads of the rules of P, and X is a closed set around it at which the book does not clash
+pub record Between (B : Book) (P : Rule → Type 0) (L X : MarkSet) : Type 0 where
+  pub lined : L.width ≡ B.width
+  pub width : X.width ≡ B.width
+  pub heads : HasHeads P (marks_of L)
+  pub within : marks_of L ⊆ marks_of X
+  pub closed : Closed B (marks_of X)
+  pub quiet : B.clash (marks_of X) ≡ false
+
+-- One turn of growing, from L and X to L' and X': heads were brought in until none was left, and the set was closed. There is another
+-- turn to make only where the book does not clash.
+pub record Turned (B : Book) (P : Rule → Type 0) (L X L' X' : MarkSet) (more : Bool) : Type 0 where
+  pub width : X'.width ≡ B.width
+  pub around : marks_of X ⊆ marks_of X'
   -- it grew by nothing that need not be there
-  pub least : (Z : Marks) → OfWidth B.width Z → Closed B Z → HasHeads P Z → marks_of before ⊆ Z → marks_of after ⊆ Z
-  pub more : added ≡ true → size B.width (marks_of before) < size B.width (marks_of after)
-  pub closed : Closed B (marks_of before) → Closed B (marks_of after)
-  pub rests : added ≡ false → HasHeads P (marks_of after)
-
--- a fare line whose head, if it is a mark of the width, is in the set
-abbrev pub HeadIn : ℕ → Marks → FareLine → Type 0
-HeadIn w X l = l.head < w → l.head ∈ X
-
--- the marks of C below n that the book denies at S
-abbrev pub denied_below : Book → (S C : Marks) → ℕ → Marks
-denied_below B S C n m = nat_lt m n && (C m && B.clash (with_mark S m))
-
--- the set D holds, of the heads of the rules that count, exactly those that the book denies at S
-pub record DeniesHeads (B : Book) (lines : List FareLine) (facts at D : MarkSet) : Type 0 where
-  pub width : D.width ≡ B.width
-  pub held : (r : Rule) → Counts (rules_of lines) (marks_of facts) r → r.head ∈ marks_of D → Denied B (marks_of at) r.head
-  pub others : (r : Rule) → Counts (rules_of lines) (marks_of facts) r → Denied B (marks_of at) r.head → r.head ∈ marks_of D
+  pub least : (Z : Marks) → OfWidth B.width Z → Closed B Z → HasHeads P Z → marks_of X ⊆ Z → marks_of X' ⊆ Z
+  pub goes_on : more ≡ true → Between B P L' X' × (size B.width (marks_of L) < size B.width (marks_of L'))
+  pub ends : more ≡ false → Closed B (marks_of X') × HasHeads P (marks_of X')

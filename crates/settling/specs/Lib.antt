@@ -1,4 +1,6 @@
 pub mod Growth
+pub mod Denials
+pub mod Kept
 pub mod Calls
 pub mod Rounding
 pub mod Judging

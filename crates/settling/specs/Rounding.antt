@@ -3,8 +3,7 @@ use Rattle.std.specs.Prelude.{◌≡◌, ℕ, ◌+◌, ◌≤◌, Bool, true, fa
 use Rattle.marks.specs.declared.set.MarkSet.{MarkSet}
 use Rattle.marks.specs.MarkSets.{marks_of}
 use Rattle.readings.specs.Books.{Book}
-use Rattle.marks.specs.Sets.{no_marks}
-use Rattle.readings.specs.Methods.{Way, PastExceptions, NotRefuted}
+use Rattle.readings.specs.Methods.{Way, Run, PastExceptions}
 use Rattle.readings.specs.Readings.{LeastReading}
 use Rattle.readings.specs.Says.{the_method, Rounds}
 use Rattle.readings.specs.Yields.{LeastClosed}
@@ -25,14 +24,14 @@ pub record GrownPast (B : Book) (lines : List FareLine) (facts T F x : MarkSet) 
   pub width : x.width ≡ B.width
   pub grown : LeastClosed B (marks_of T) (PastExceptions B (rules_of lines) (marks_of facts) (marks_of F)) (marks_of x)
 
--- and the second: x is what is kept at T and F
-pub record KeptAt (B : Book) (lines : List FareLine) (facts T F x : MarkSet) : Type 0 where
-  pub width : x.width ≡ B.width
-  pub kept : LeastClosed B no_marks (NotRefuted B (rules_of lines) (marks_of facts) (marks_of F) (marks_of T)) (marks_of x)
-
 -- a method as a way of settling facts and fare lines in memory
 abbrev pub way_of : Method → Book → List FareLine → MarkSet → Way
 way_of k B lines facts = (the_method k).way B (rules_of lines) (marks_of facts)
+
+-- some rounds of the way W lead from its start to T and V
+pub record Reached (W : Way) (T V : MarkSet) : Type 0 where
+  pub rounds : ℕ
+  pub run : Run W rounds (marks_of T) (marks_of V)
 
 -- what one round of the way W makes of T and V, two sets of the width
 pub record MadeOf (W : Way) (w : ℕ) (T V : MarkSet) (next : MarkSet × MarkSet) : Type 0 where

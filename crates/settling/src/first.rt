@@ -10,6 +10,7 @@ use crate::settled::Settled;
 use crate::trip::Trip;
 use books::book::TermBook;
 use lines::fare::FareLine;
+use lines::index::Index;
 use marks::refusal::Refusal;
 use marks::set::MarkSet;
 
@@ -23,14 +24,15 @@ impl Way for FirstWay {
         MarkSet::full(trip.book.width())
     }
 
-    // T becomes the full yield of U, and then U the guarded yield of that T.
+    // T becomes the full yield of U, on from the last T, and then U the guarded yield of the new T, on from that.
     fn next<B: TermBook>(
         trip: &Trip<B>,
-        _lower: &MarkSet,
+        lower: &MarkSet,
         upper: &MarkSet,
+        known: &mut MarkSet,
     ) -> Result<(MarkSet, MarkSet), Refusal> {
-        let next_lower = trip.full_of(upper)?;
-        let next_upper = trip.guarded_of(&next_lower)?;
+        let next_lower = trip.full_from(lower, upper)?;
+        let next_upper = trip.guarded_from(&next_lower, known)?;
         Ok((next_lower, next_upper))
     }
 
@@ -47,5 +49,6 @@ pub fn settle_first<B: TermBook>(
 ) -> Result<Settled, Refusal>
     ensures { Test (Unlike (B.TermBook.book book.now) facts.now) (Refuses result 7) (Test (LawfulFares (B.TermBook.book book.now).width lines.now → ⊥) (Refuses result 8) (Gives result (Settles (B.TermBook.book book.now) lines.now facts.now First))) }
 {
-    Trip::of(lines, book, facts)?.rounds::<FirstWay>()
+    let mut index = Index::new();
+    Trip::of(lines, book, facts, &mut index)?.rounds::<FirstWay>()
 }

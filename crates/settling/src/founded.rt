@@ -8,6 +8,7 @@ use crate::settled::complement;
 use crate::trip::Trip;
 use books::bare::BareBook;
 use lines::fare::FareLine;
+use lines::index::Index;
 use marks::refusal::Refusal;
 use marks::set::MarkSet;
 
@@ -37,5 +38,6 @@ pub fn well_founded(lines: &[FareLine], facts: &MarkSet) -> Result<Model, Refusa
     ensures { Test (LawfulFares facts.now.width lines.now → ⊥) (Refuses result 8) (Gives result (IsModel lines.now facts.now)) }
 {
     let book = BareBook::new(facts.width())?;
-    Trip::of(lines, &book, facts)?.model()
+    let mut index = Index::new();
+    Trip::of(lines, &book, facts, &mut index)?.model()
 }

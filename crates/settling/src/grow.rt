@@ -1,35 +1,48 @@
 // Growing a set to the least closed set around it that has the heads of the admitted rules.
 ghost use Rattle.std.specs.Prelude.{◌≡◌};
 ghost use Rattle.marks.specs.Refusals.{Gives};
-ghost use Rattle.settling.specs.Growth.{LetInBy, LineLetInBy, Grown, Turned};
+ghost use Rattle.settling.specs.Growth.{LetInBy, LineLetInBy, Grown, Between, Turned};
 
 use crate::trip::Trip;
 use books::book::TermBook;
 use lines::admission::Admission;
-use lines::pass::pass;
+use lines::bring::{bring_all, bring_on};
 use marks::refusal::Refusal;
 use marks::set::MarkSet;
 
 impl<B: TermBook> Trip<'_, B> {
-    // One pass over the fare lines and, where it added a mark, one closing. Says whether it added one.
-    fn turn(&self, gate: &Admission, set: &mut MarkSet) -> Result<bool, Refusal>
-        requires { set.old.width ≡ (B.TermBook.book self.now.book.now).width }
-        ensures { Gives result (Turned (B.TermBook.book self.now.book.now) (LineLetInBy self.now.lines.now gate.now) set.old set.new) }
+    // One turn more, where closing `lined` added a mark: brings in the fare lines that stand at the set until none adds anything, and
+    // closes it, on from what it was. Says whether there may be another turn: after a clash the set has all marks.
+    fn turn(
+        &self,
+        gate: &Admission,
+        lined: &mut MarkSet,
+        set: &mut MarkSet,
+    ) -> Result<bool, Refusal>
+        requires { Between (B.TermBook.book self.now.book.now) (LineLetInBy self.now.lines.now gate.now) lined.old set.old }
+        ensures { Gives result (Turned (B.TermBook.book self.now.book.now) (LineLetInBy self.now.lines.now gate.now) lined.old set.old lined.new set.new) }
     {
-        if !pass(self.lines, gate, set).added {
+        if set.same_marks(lined)? {
             return Ok(false);
         }
-        self.book.close(set)?;
-        Ok(true)
+        let closed = *set;
+        bring_on(self.lines, self.index, gate, lined, set)?;
+        *lined = *set;
+        let clash = self.book.close_on(set, &closed)?;
+        Ok(!clash)
     }
 
-    // Closes the set and brings fare lines in, in turn, until none adds anything.
+    // Brings fare lines in until none adds anything, closes the set, and does both again until the closing adds nothing.
     fn grow(&self, gate: &Admission, set: &mut MarkSet) -> Result<(), Refusal>
         requires { set.old.width ≡ (B.TermBook.book self.now.book.now).width }
         ensures { Gives result (λ _. Grown (B.TermBook.book self.now.book.now) (LineLetInBy self.now.lines.now gate.now) set.old set.new) }
     {
-        self.book.close(set)?;
-        while self.turn(gate, set)? {}
+        bring_all(self.lines, self.index, gate, set);
+        let mut lined = *set;
+        if self.book.close(set)? {
+            return Ok(());
+        }
+        while self.turn(gate, &mut lined, set)? {}
         Ok(())
     }
 

@@ -5,6 +5,7 @@ mod deny;
 pub mod first;
 pub mod founded;
 mod grow;
+mod keep;
 mod rounds;
 pub mod second;
 pub mod settle;

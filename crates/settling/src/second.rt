@@ -3,7 +3,7 @@ ghost use Rattle.std.specs.Prelude.{◌≡◌};
 ghost use Rattle.marks.specs.Refusals.{Refuses, Gives, Test};
 ghost use Rattle.readings.specs.declared.method.Method.TheVariants.{Second};
 ghost use Rattle.settling.specs.Calls.{Unlike, LawfulFares};
-ghost use Rattle.settling.specs.Rounding.{GrownPast, KeptAt, Settles};
+ghost use Rattle.settling.specs.Rounding.{GrownPast, Settles};
 
 use crate::rounds::Way;
 use crate::settled::{Settled, complement};
@@ -11,6 +11,7 @@ use crate::trip::Trip;
 use books::book::TermBook;
 use lines::admission::Admission;
 use lines::fare::FareLine;
+use lines::index::Index;
 use marks::refusal::Refusal;
 use marks::set::MarkSet;
 
@@ -29,20 +30,6 @@ impl<B: TermBook> Trip<'_, B> {
         };
         self.grown(lower, &gate)
     }
-
-    // What the rules keep that no condition in F, no exception in T and no denial at T holds back.
-    fn kept_at(&self, lower: &MarkSet, refuted: &MarkSet) -> Result<MarkSet, Refusal>
-        requires { lower.now.width ≡ (B.TermBook.book self.now.book.now).width }
-        ensures { Gives result (KeptAt (B.TermBook.book self.now.book.now) self.now.lines.now self.now.facts.now lower.now refuted.now) }
-    {
-        let none = MarkSet::empty(self.book.width())?;
-        let gate = Admission {
-            exceptions: *lower,
-            denied: self.denied_heads(lower)?,
-            refuted: *refuted,
-        };
-        self.grown(&none, &gate)
-    }
 }
 
 // The other set is F: U is what is outside it.
@@ -55,14 +42,15 @@ impl Way for SecondWay {
         MarkSet::empty(trip.book.width())
     }
 
-    // T grows, and then all marks that are not kept join F.
+    // T grows, and then all marks that are not kept, on from that T, join F.
     fn next<B: TermBook>(
         trip: &Trip<B>,
         lower: &MarkSet,
         refuted: &MarkSet,
+        known: &mut MarkSet,
     ) -> Result<(MarkSet, MarkSet), Refusal> {
         let grown = trip.grown_past(lower, refuted)?;
-        let kept = trip.kept_at(&grown, refuted)?;
+        let kept = trip.kept_from(&grown, refuted, known)?;
         let mut joined = *refuted;
         joined.union_with(&complement(&kept)?)?;
         Ok((grown, joined))
@@ -81,5 +69,6 @@ pub fn settle_second<B: TermBook>(
 ) -> Result<Settled, Refusal>
     ensures { Test (Unlike (B.TermBook.book book.now) facts.now) (Refuses result 7) (Test (LawfulFares (B.TermBook.book book.now).width lines.now → ⊥) (Refuses result 8) (Gives result (Settles (B.TermBook.book book.now) lines.now facts.now Second))) }
 {
-    Trip::of(lines, book, facts)?.rounds::<SecondWay>()
+    let mut index = Index::new();
+    Trip::of(lines, book, facts, &mut index)?.rounds::<SecondWay>()
 }

@@ -10,6 +10,7 @@ use crate::settled::Settled;
 use crate::trip::Trip;
 use books::book::TermBook;
 use lines::fare::FareLine;
+use lines::index::Index;
 use marks::refusal::Refusal;
 use marks::set::MarkSet;
 use readings::method::Method;
@@ -52,5 +53,6 @@ pub fn settle<B: TermBook>(
 ) -> Result<Judged, Refusal>
     ensures { Test (Unlike (B.TermBook.book book.now) facts.now) (Refuses result 7) (Test (LawfulFares (B.TermBook.book book.now).width lines.now → ⊥) (Refuses result 8) (Gives result (Judges (B.TermBook.book book.now) lines.now facts.now method))) }
 {
-    Trip::of(lines, book, facts)?.judged_by(method)
+    let mut index = Index::new();
+    Trip::of(lines, book, facts, &mut index)?.judged_by(method)
 }

@@ -10,6 +10,7 @@ use crate::trip::Trip;
 use crate::verdict::clashes;
 use books::book::TermBook;
 use lines::fare::FareLine;
+use lines::index::Index;
 use marks::refusal::Refusal;
 use marks::set::MarkSet;
 use marks::width::check_set_width;
@@ -37,5 +38,6 @@ pub fn is_sound<B: TermBook>(
     ensures { Test (Unlike (B.TermBook.book book.now) facts.now ⊎ Unlike (B.TermBook.book book.now) set.now) (Refuses result 7) (Test (LawfulFares (B.TermBook.book book.now).width lines.now → ⊥) (Refuses result 8) (Gives result (λ b. Decides b (Sound (B.TermBook.book book.now) (rules_of lines.now) (marks_of facts.now) (marks_of set.now))))) }
 {
     check_set_width(set, book.width())?;
-    Trip::of(lines, book, facts)?.sound(set)
+    let mut index = Index::new();
+    Trip::of(lines, book, facts, &mut index)?.sound(set)
 }

@@ -38,14 +38,15 @@ impl<B: TermBook> Trip<'_, B> {
     // The verdict that the rules give on T and U: broken, else suspect where the two yields of T differ, else clear. The guarded
     // one is U.
     pub(crate) fn judge(&self, reading: &Reading) -> Result<Verdict, Refusal>
-        requires width { reading.now.lower.width ≡ (B.TermBook.book self.now.book.now).width }
+        requires lower { reading.now.lower.width ≡ (B.TermBook.book self.now.book.now).width }
+        requires upper { reading.now.upper.width ≡ (B.TermBook.book self.now.book.now).width }
         requires guarded { Guarded (B.TermBook.book self.now.book.now) (rules_of self.now.lines.now) (marks_of self.now.facts.now) (marks_of reading.now.lower) (marks_of reading.now.upper) }
         ensures { Gives result (λ v. (the_verdict v).says (B.TermBook.book self.now.book.now) (rules_of self.now.lines.now) (marks_of self.now.facts.now) (marks_of reading.now.lower) (marks_of reading.now.upper)) }
     {
         if broken(self.book, reading)? {
             return Ok(Verdict::Broken);
         }
-        let full = self.full_of(&reading.lower)?;
+        let full = self.full_around(&reading.upper, &reading.lower)?;
         if full.same_marks(&reading.upper)? {
             Ok(Verdict::Clear)
         } else {

@@ -8,11 +8,12 @@ ghost use Rattle.line_book.specs.Growing.{line_lawful};
 ghost use Rattle.line_book.specs.Seeing.{heads_below};
 
 use super::LineBook;
-use crate::grow::grow;
 use books::book::TermBook;
 use books::table::Table;
 use books::whole::give_all;
+use lines::bring::{bring_all, bring_on};
 use lines::check::check_records;
+use lines::index::Index;
 use lines::term::{MOST_TERMS, TermLine};
 use marks::refusal::Refusal;
 use marks::set::MarkSet;
@@ -27,6 +28,7 @@ impl LineBook {
         Ok(LineBook {
             width,
             lines: Table::new(TermLine::default()),
+            index: Index::new(),
         })
     }
 
@@ -35,7 +37,11 @@ impl LineBook {
         ensures { Test (AllLawful (LawfulTerm self.old.width) 512 lines.now → ⊥) (Refuses result 8 × SameBook self.old self.new) (Gives result (λ _. IsLineBook self.new self.old.width lines.now)) }
     {
         check_records(lines, MOST_TERMS, self.width)?;
+        let Ok(none) = MarkSet::empty(self.width) else {
+            unreachable()
+        };
         self.lines.fill(lines);
+        self.index.fill::<(), TermLine>(lines, none);
         Ok(())
     }
 }
@@ -51,7 +57,15 @@ impl TermBook for LineBook {
 
     fn close(&self, set: &mut MarkSet) -> Result<bool, Refusal> {
         check_set_width(set, self.width)?;
-        let clash = grow(self.lines.as_slice(), set);
+        let clash = bring_all(self.lines.as_slice(), &self.index, &(), set);
+        give_all(clash, set);
+        Ok(clash)
+    }
+
+    // By the marks that are new.
+    fn close_on(&self, set: &mut MarkSet, closed: &MarkSet) -> Result<bool, Refusal> {
+        check_set_width(set, self.width)?;
+        let clash = bring_on(self.lines.as_slice(), &self.index, &(), closed, set)?;
         give_all(clash, set);
         Ok(clash)
     }

@@ -2,7 +2,7 @@ use Rattle.std.proofs.Common.{ℕ, ◌+◌, sym, ◌∙◌, subst, arith}
 use Rattle.marks.specs.declared.set.MarkSet.{MarkSet}
 use Rattle.marks.specs.MarkSets.{marks_of, IsSet}
 use Rattle.marks.specs.Sets.{OfWidth}
-use Rattle.settling.specs.Growth.{denied_below}
+use Rattle.settling.specs.Denials.{denied_below}
 use Rattle.settling.proofs.Answering.{answered, given}
 use Rattle.settling.proofs.Denying.{denied_step, kept_step, denied_all, denied_none}
 use Rattle.settling.proofs.deny.denied_among.Goals as goal
@@ -13,6 +13,7 @@ loop-m-init g c =
     let new = given c.in_ok-denied.ensures in (
       omega arith,
       record { width = new.width ∙ c.width.ensures; marks = new.marks ∙ denied_none (g.B.TermBook.book c.args.book.now) (marks_of c.args.at.now) (marks_of c.args.tried.now) },
+      record { clean = c.requires.clean; around = λ m t. t },
     )
 
 pub loop-m-preserved : goal.loop-m-preserved
@@ -24,7 +25,7 @@ loop-m-preserved g c =
     let low = c.in-Some.ensures.next in
     let within = c.in-Some.ensures.within in
     let before = c.loop-m.invariant.1 in
-    let is = c.in_ok-denies.ensures in (
+    let is = c.in_ok-denies.ensures.denied in (
       omega arith,
       elim c.if-branch.branch [
         | then-branch+in_ok-insert w ↦
@@ -35,6 +36,7 @@ loop-m-preserved g c =
             subst (λ (s : MarkSet). IsSet s B.width (denied_below B S C (m + 1))) (sym w.denied-is)
             (record { width = before.width; marks = kept_step B S C c.loop-m.from m low (marks_of c.loop-m.denied) before.marks (sym w.if-branch.false ∙ is) })
       ],
+      c.in_ok-denies.ensures.group,
     )
 
 pub returns : goal.returns

@@ -1,7 +1,7 @@
 use Rattle.std.proofs.Common.{◌∙◌, arith}
 use Rattle.std.proofs.ByRecursion.{All-more, All-weaker}
 use Rattle.marks.specs.MarkSets.{marks_of}
-use Rattle.settling.specs.Growth.{HeadIn}
+use Rattle.settling.specs.Denials.{HeadIn}
 use Rattle.settling.proofs.Denying.{took_in}
 use Rattle.settling.proofs.trip.Trip.all_heads.Goals as goal
 

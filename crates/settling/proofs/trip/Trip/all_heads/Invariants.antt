@@ -2,7 +2,7 @@ use Rattle.std.proofs.Common.{◌≡◌, take}
 use Rattle.std.specs.List.{AllByRecursion}
 use Rattle.marks.specs.MarkSets.{marks_of}
 use Rattle.marks.specs.Sets.{◌⊆◌}
-use Rattle.settling.specs.Growth.{HeadIn}
+use Rattle.settling.specs.Denials.{HeadIn}
 use Rattle.settling.proofs.trip.Trip.all_heads.Given as goal
 
 abbrev pub invariant-loop-line : goal.invariant-loop-line

@@ -1,9 +1,6 @@
-use Rattle.settling.proofs.Answering.{given, gives_map}
-use Rattle.settling.proofs.Yielding.{full_grown}
+use Rattle.marks.proofs.Sets.{equal_within}
+use Rattle.settling.proofs.Answering.{given}
 use Rattle.settling.proofs.trip.Trip.full_of.Goals as goal
 
-pub returns : goal.returns
-returns g c =
-    let none = c.in_ok-none.none in
-    let is = (given c.in_ok-none.ensures).marks in
-    gives_map c.grown.result (λ x grown. full_grown _ _ (record { exceptions = _; denied = none; refuted = none }) grown is is is) c.grown.ensures
+pub full_from-requires-clause-within : goal.full_from-requires-clause-within
+full_from-requires-clause-within g c = λ Z zw zc zh m t. absurd (equal_within (given c.in_ok-none.ensures).marks m t)

@@ -6,7 +6,7 @@ use Rattle.settling.proofs.Growing.{Growing}
 use Rattle.settling.proofs.trip.Trip.grow.Given as goal
 
 abbrev pub invariant-loop : goal.invariant-loop
-invariant-loop g l = Growing (g.B.TermBook.book l.self.book.now) (LineLetInBy l.self.lines.now l.gate) l.initial.set l.set
+invariant-loop g l = Growing (g.B.TermBook.book l.self.book.now) (LineLetInBy l.self.lines.now l.gate) l.fn.set l.lined l.set
 
 abbrev pub decreases-loop : goal.decreases-loop
-decreases-loop g l = (g.B.TermBook.book l.self.book.now).width - size (g.B.TermBook.book l.self.book.now).width (marks_of l.set)
+decreases-loop g l = let w = (g.B.TermBook.book l.self.book.now).width in w - size w (marks_of l.lined)
