@@ -1,31 +1,20 @@
 // The calls on a set of marks.
 ghost use Rattle.std.specs.Prelude.{◌≡◌, ◌<◌, ◌≤◌, Any, IfSome, Decides, ◌≢◌};
 ghost use Rattle.marks.specs.MarkSets.{marks_of, BadWidth, IsSet, Unchanged};
-ghost use Rattle.marks.specs.Joins.{joined, BitOp, Computes};
 ghost use Rattle.marks.specs.Overlaps.{Overlaps};
 ghost use Rattle.marks.specs.Refusals.{Refuses, Gives, Test};
 ghost use Rattle.marks.specs.Sets.{◌⊆◌, no_marks, below, among, with_mark, without_mark, ◌∪◌, ◌∩◌, ◌∖◌, size, Next};
 
 use super::MarkSet;
 use super::words::{
-    has_mark, join_words, no_words, put_mark, take_mark, words_below, words_same, words_within,
+    has_mark, no_words, put_mark, take_mark, words_apart, words_below, words_same, words_shared,
+    words_united, words_within,
 };
 use crate::overlap::Overlap;
 use crate::refusal::Refusal;
 use crate::width::{check_set_width, check_width};
 
 impl MarkSet {
-    fn join<F: Fn(u64, u64) -> u64>(&mut self, other: &MarkSet, op: F) -> Result<(), Refusal>
-        ghost by: { BitOp }
-        requires callable { F.IsAlwaysCallable op }
-        requires computes { Computes (F.post op) by.word }
-        ensures { Test (self.old.width ≢ other.now.width) (Refuses result 7 × Unchanged self.old self.new) (Gives result (λ _. IsSet self.new self.old.width (joined by.on (marks_of self.old) (marks_of other.now)))) }
-    {
-        check_set_width(other, self.width)?;
-        self.words = join_words(&self.words, &other.words, op);
-        Ok(())
-    }
-
     // Puts the marks into a set that holds none.
     fn fill(&mut self, marks: &[u16]) -> Result<(), Refusal>
         requires { marks_of self.old ≡ no_marks }
@@ -101,21 +90,27 @@ impl MarkSet {
     pub fn union_with(&mut self, other: &MarkSet) -> Result<(), Refusal>
         ensures { Test (self.old.width ≢ other.now.width) (Refuses result 7 × Unchanged self.old self.new) (Gives result (λ _. IsSet self.new self.old.width (marks_of self.old ∪ marks_of other.now))) }
     {
-        self.join(other, |a, b| a | b)
+        check_set_width(other, self.width)?;
+        self.words = words_united(&self.words, &other.words);
+        Ok(())
     }
 
     // Keeps the marks that the other set holds too.
     pub fn intersect_with(&mut self, other: &MarkSet) -> Result<(), Refusal>
         ensures { Test (self.old.width ≢ other.now.width) (Refuses result 7 × Unchanged self.old self.new) (Gives result (λ _. IsSet self.new self.old.width (marks_of self.old ∩ marks_of other.now))) }
     {
-        self.join(other, |a, b| a & b)
+        check_set_width(other, self.width)?;
+        self.words = words_shared(&self.words, &other.words);
+        Ok(())
     }
 
     // Takes out the marks of the other set.
     pub fn subtract(&mut self, other: &MarkSet) -> Result<(), Refusal>
         ensures { Test (self.old.width ≢ other.now.width) (Refuses result 7 × Unchanged self.old self.new) (Gives result (λ _. IsSet self.new self.old.width (marks_of self.old ∖ marks_of other.now))) }
     {
-        self.join(other, |a, b| a & !b)
+        check_set_width(other, self.width)?;
+        self.words = words_apart(&self.words, &other.words);
+        Ok(())
     }
 
     // Whether every mark of the set is one of the other's.

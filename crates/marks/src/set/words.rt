@@ -1,6 +1,6 @@
 // The words of a set: a mark put in or taken out, two sets joined or compared, word by word.
 ghost use Rattle.std.specs.Prelude.{◌≡◌, ℕ, ◌+◌, ◌*◌, ◌<◌, ◌≤◌, Decides, nat_lt};
-ghost use Rattle.marks.specs.Sets.{◌⊆◌, no_marks, below, OfWidth, with_mark, without_mark, size};
+ghost use Rattle.marks.specs.Sets.{◌⊆◌, ◌∪◌, ◌∩◌, ◌∖◌, no_marks, below, OfWidth, with_mark, without_mark, size};
 ghost use Rattle.marks.specs.Joins.{joined, BitOp, Computes};
 ghost use Rattle.marks.specs.Overlaps.{Overlaps};
 ghost use Rattle.marks.specs.Words.{bit, held};
@@ -63,7 +63,7 @@ pub(super) fn take_mark(words: &mut [u64; 8], m: u16)
 }
 
 // Two sets joined word by word, by an operation that does `by.on` with each bit.
-pub(super) fn join_words<F: Fn(u64, u64) -> u64>(a: &[u64; 8], b: &[u64; 8], op: F) -> [u64; 8]
+fn join_words<F: Fn(u64, u64) -> u64>(a: &[u64; 8], b: &[u64; 8], op: F) -> [u64; 8]
     ghost by: { BitOp }
     requires callable { F.IsAlwaysCallable op }
     requires computes { Computes (F.post op) by.word }
@@ -71,6 +71,30 @@ pub(super) fn join_words<F: Fn(u64, u64) -> u64>(a: &[u64; 8], b: &[u64; 8], op:
     ensures inside { (w : ℕ) → OfWidth w (held a.now) → OfWidth w (held b.now) → OfWidth w (held result) }
 {
     std::array::from_fn(|i| op(a[i], b[i]))
+}
+
+// The words of the marks of either set.
+pub(super) fn words_united(a: &[u64; 8], b: &[u64; 8]) -> [u64; 8]
+    ensures marks { held result ≡ held a.now ∪ held b.now }
+    ensures inside { (w : ℕ) → OfWidth w (held a.now) → OfWidth w (held b.now) → OfWidth w (held result) }
+{
+    join_words(a, b, |x, y| x | y)
+}
+
+// The words of the marks that both sets hold.
+pub(super) fn words_shared(a: &[u64; 8], b: &[u64; 8]) -> [u64; 8]
+    ensures marks { held result ≡ held a.now ∩ held b.now }
+    ensures inside { (w : ℕ) → OfWidth w (held a.now) → OfWidth w (held b.now) → OfWidth w (held result) }
+{
+    join_words(a, b, |x, y| x & y)
+}
+
+// The words of the marks that the first set holds and the second does not.
+pub(super) fn words_apart(a: &[u64; 8], b: &[u64; 8]) -> [u64; 8]
+    ensures marks { held result ≡ held a.now ∖ held b.now }
+    ensures inside { (w : ℕ) → OfWidth w (held a.now) → OfWidth w (held b.now) → OfWidth w (held result) }
+{
+    join_words(a, b, |x, y| x & !y)
 }
 
 pub(super) fn words_within(a: &[u64; 8], b: &[u64; 8]) -> bool
