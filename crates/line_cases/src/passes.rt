@@ -20,6 +20,7 @@ fn three_lines() -> [TermLine; 3] {
 }
 
 // A line fires in its turn; what a later line adds does not reach back. A denial stands where its conditions do. What came is fresh.
+// A pass that adds nothing leaves both sets.
 #[test]
 fn term_pass(rt: HostRuntime) -> Result<(), Fail> {
     let lines = three_lines();
@@ -28,6 +29,9 @@ fn term_pass(rt: HostRuntime) -> Result<(), Fail> {
     assert!(rt; growth.stood);
     assert!(rt; growth.set.same_marks(&MarkSet::of(4, &[1, 2])?)?);
     assert!(rt; growth.fresh.same_marks(&MarkSet::of(4, &[2])?)?);
+    pass(&lines, AllLines::of(&lines), &(), &mut growth);
+    assert!(rt; growth.set.same_marks(&MarkSet::of(4, &[1, 2, 3])?)?);
+    assert!(rt; growth.fresh.same_marks(&MarkSet::of(4, &[2, 3])?)?);
     pass(&lines, AllLines::of(&lines), &(), &mut growth);
     assert!(rt; growth.set.same_marks(&MarkSet::of(4, &[1, 2, 3])?)?);
     assert!(rt; growth.fresh.same_marks(&MarkSet::of(4, &[2, 3])?)?);

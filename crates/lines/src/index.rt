@@ -97,6 +97,17 @@ impl<const M: usize> Index<M> {
         }
     }
 
+    // Links the slots of these lines alone, line by line, so far as there is room.
+    fn link_all<G, L: Line<G>>(&mut self, lines: &[L], first: MarkSet)
+        ensures { (g : G) → IsIndexOf self.new (conditions_of (map (L.Line.view g) lines.now)) }
+    {
+        self.last = [0; 512];
+        for i in 0..lines.len().min(M / 8).min(MOST_LINES) {
+            self.add::<G, L>(i, &lines[i]);
+        }
+        self.marked = Some(self.with_slots(first));
+    }
+
     /// An index of nothing.
     pub fn new() -> Index<M>
         ensures { IsIndexOf result [] }
@@ -113,11 +124,7 @@ impl<const M: usize> Index<M> {
     pub fn fill<G, L: Line<G>>(&mut self, lines: &[L], first: MarkSet)
         ensures { (g : G) → IsIndexOf self.new (conditions_of (map (L.Line.view g) lines.now)) }
     {
-        self.last = [0; 512];
-        for i in 0..lines.len().min(M / 8).min(MOST_LINES) {
-            self.add::<G, L>(i, &lines[i]);
-        }
-        self.marked = Some(self.with_slots(first));
+        self.link_all::<G, L>(lines, first)
     }
 
     /// The lines with the mark among their conditions.

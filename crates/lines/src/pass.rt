@@ -29,9 +29,8 @@ fn take_turn<G, L: Line<G>>(line: &L, gate: &G, growth: &mut Growth)
     }
 }
 
-/// Goes once through the lines that the agenda names, in its order, and brings in each whose conditions stand at the set as it then
-/// is.
-pub fn pass<G, L: Line<G>, A: Agenda>(lines: &[L], agenda: A, gate: &G, growth: &mut Growth)
+// The turns of the lines that the agenda names, one after the other.
+fn sweep<G, L: Line<G>, A: Agenda>(lines: &[L], agenda: A, gate: &G, growth: &mut Growth)
     ensures { Passes (named (map (L.Line.view gate.now) lines.now) (A.Agenda.names agenda)) growth.old growth.new }
 {
     let mut agenda = agenda;
@@ -40,4 +39,12 @@ pub fn pass<G, L: Line<G>, A: Agenda>(lines: &[L], agenda: A, gate: &G, growth: 
             take_turn(&lines[i], gate, growth);
         }
     }
+}
+
+/// Goes once through the lines that the agenda names, in its order, and brings in each whose conditions stand at the set as it then
+/// is.
+pub fn pass<G, L: Line<G>, A: Agenda>(lines: &[L], agenda: A, gate: &G, growth: &mut Growth)
+    ensures { Passes (named (map (L.Line.view gate.now) lines.now) (A.Agenda.names agenda)) growth.old growth.new }
+{
+    sweep(lines, agenda, gate, growth)
 }

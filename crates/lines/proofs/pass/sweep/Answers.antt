@@ -2,7 +2,7 @@ use Rattle.std.proofs.Common.{length, map, ap, ◌∙◌, refl, arith}
 use Rattle.std.specs.Option.{option_map}
 use Rattle.std.proofs.lemmas.Option.{slice_get_read, slice_get-map, slice_get_past}
 use Rattle.lines.proofs.Going.{going_start, going_named, going_past, going_last}
-use Rattle.lines.proofs.pass.pass.Goals as goal
+use Rattle.lines.proofs.pass.sweep.Goals as goal
 
 pub loop-i-init : goal.loop-i-init
 loop-i-init g c = going_start _ c.args.growth.now

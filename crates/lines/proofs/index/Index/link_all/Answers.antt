@@ -11,7 +11,7 @@ use Rattle.lines.specs.Slots.{Linked, slot_at}
 use Rattle.lines.specs.Passes.{View, conditions_of}
 use Rattle.lines.proofs.Indexing.{slots_of, slots_at, list_there, is_index}
 use Rattle.lines.proofs.Linking.{linked_none}
-use Rattle.lines.proofs.index.Index.fill.Goals as goal
+use Rattle.lines.proofs.index.Index.link_all.Goals as goal
 
 pub loop-i-init : goal.loop-i-init
 loop-i-init g c gate = linked_none _ 512 _

@@ -2,7 +2,7 @@ use Rattle.std.proofs.Common.{◌*◌, map}
 use Rattle.lines.specs.Slots.{Linked}
 use Rattle.lines.specs.Passes.{conditions_of}
 use Rattle.lines.proofs.Indexing.{slots_of}
-use Rattle.lines.proofs.index.Index.fill.Given as goal
+use Rattle.lines.proofs.index.Index.link_all.Given as goal
 
 abbrev pub invariant-loop-i : goal.invariant-loop-i
 invariant-loop-i g l =

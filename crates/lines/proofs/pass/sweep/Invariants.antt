@@ -1,7 +1,7 @@
 use Rattle.std.proofs.Common.{length, map}
 use Rattle.lines.proofs.Going.{Going}
 use Rattle.lines.specs.Agendas.{named}
-use Rattle.lines.proofs.pass.pass.Given as goal
+use Rattle.lines.proofs.pass.sweep.Given as goal
 
 abbrev pub invariant-loop-i : goal.invariant-loop-i
 invariant-loop-i g l =
