@@ -1,4 +1,5 @@
 // What a world book holds.
+ghost use Rattle.std.specs.Prelude.{◌≤◌, length};
 ghost use Rattle.world_book.specs.Worlds.{AllOfWidth};
 
 use books::table::Table;
@@ -14,5 +15,6 @@ pub const MOST_WORLDS: usize = 64;
 pub struct WorldBook {
     width: u16,
     worlds: Table<MarkSet, MOST_WORLDS>,
+    ghost few: { length worlds ≤ 64 },
     ghost widths: { AllOfWidth width worlds },
 }
