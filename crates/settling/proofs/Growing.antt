@@ -149,7 +149,21 @@ module _ {B : Book} (law : Lawful B) {lines : List FareLine} (gate : Admission) 
         ends = λ _. (between.closed, subst (HasHeads P) (sym same) between.heads);
       }
 
-  -- and one where it had
+  -- one where it had, and no line was brought in
+  pub turned_still : {L X X' : MarkSet} {told : Bool} → Between B P L X → BringsAll vs X X' told → marks_of X' ≡ marks_of X → Turned B P L X L X' false
+  turned_still {X' = X'} between brings same =
+      record {
+        width = brings.some.width ∙ between.width;
+        around = brings.some.around;
+        least = λ Z z c h s. subst (λ (Y : Marks). Y ⊆ Z) (sym same) s;
+        goes_on = λ e. absurd (false≢true e);
+        ends = λ _. (
+          subst (Closed B) (sym same) between.closed,
+          seen_from (marks_of X') (subst (λ (k : ℕ). HasTheirHeads k vs (marks_of X')) between.width brings.heads),
+        );
+      }
+
+  -- and one where one was
   pub turned_some : {L X lined after : MarkSet} {told clash more : Bool} → Between B P L X → (marks_of X ≡ marks_of L → ⊥) → BringsAll vs X lined told
       → ClosedTo B lined after clash → more ≡ not clash → Turned B P L X lined after more
   turned_some {L} {X} {lined} {after} {told} {clash} {more} between differ brings to is =

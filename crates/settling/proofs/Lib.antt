@@ -1,6 +1,7 @@
 pub mod Answering
 pub mod Fares
 pub mod Growing
+pub mod Whole
 pub mod Letting
 pub mod Denying
 pub mod Grouping

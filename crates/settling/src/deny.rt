@@ -4,6 +4,7 @@ ghost use Rattle.std.specs.List.{AllByRecursion};
 ghost use Rattle.marks.specs.MarkSets.{marks_of, IsSet};
 ghost use Rattle.marks.specs.Refusals.{Gives};
 ghost use Rattle.marks.specs.Sets.{◌⊆◌, with_mark};
+ghost use Rattle.readings.specs.Books.{Clashes};
 ghost use Rattle.settling.specs.Denials.{HeadIn, denied_below, DeniesHeads, OnlyDenied, Clean, CleanAround, ClosedWith, CleanIfAny};
 
 use crate::trip::Trip;
@@ -51,6 +52,9 @@ fn denies<B: TermBook>(book: &B, at: &MarkSet, m: u16, group: &mut MarkSet) -> R
         *group = greater;
         return Ok(false);
     }
+    if group.same_marks(at)? {
+        return Ok(true);
+    }
     if let Some(alone) = clean_with(book, at, m)? {
         *group = alone;
         return Ok(false);
@@ -93,6 +97,26 @@ impl<B: TermBook> Trip<'_, B> {
             let _ = heads.insert(line.head);
         }
         heads
+    }
+
+    // The heads that the book denies at the set, where some are known and the book clashes at what grew from it. Where nothing grew, it
+    // clashes at the set itself.
+    pub(crate) fn denied_under(
+        &self,
+        at: &MarkSet,
+        grown: &MarkSet,
+        known: &MarkSet,
+    ) -> Result<MarkSet, Refusal>
+        requires at { at.now.width ≡ (B.TermBook.book self.now.book.now).width }
+        requires grown { grown.now.width ≡ (B.TermBook.book self.now.book.now).width }
+        requires clash { Clashes (B.TermBook.book self.now.book.now) (marks_of grown.now) }
+        requires known { OnlyDenied (B.TermBook.book self.now.book.now) self.now.lines.now self.now.facts.now (marks_of at.now) known.now }
+        ensures { Gives result (DeniesHeads (B.TermBook.book self.now.book.now) self.now.lines.now self.now.facts.now (marks_of at.now)) }
+    {
+        if grown.same_marks(at)? {
+            return MarkSet::full(self.book.width());
+        }
+        self.denied_heads(at, known)
     }
 
     // The heads that the book denies at the set, where some are known. Where it clashes there it denies them all; elsewhere it denies

@@ -1,6 +1,8 @@
 // Growing a set to the least closed set around it that has the heads of the admitted rules.
-ghost use Rattle.std.specs.Prelude.{◌≡◌};
+ghost use Rattle.std.specs.Prelude.{◌≡◌, Decides};
+ghost use Rattle.marks.specs.MarkSets.{marks_of};
 ghost use Rattle.marks.specs.Refusals.{Gives};
+ghost use Rattle.marks.specs.Sets.{below};
 ghost use Rattle.settling.specs.Growth.{LetInBy, LineLetInBy, Grown, Between, Turned};
 
 use crate::trip::Trip;
@@ -12,7 +14,7 @@ use marks::set::MarkSet;
 
 impl<B: TermBook> Trip<'_, B> {
     // One turn more, where closing `lined` added a mark: brings in the fare lines that stand at the set until none adds anything, and
-    // closes it, on from what it was. Says whether there may be another turn: after a clash the set has all marks.
+    // closes it, on from what it was, where one did. Says whether there may be another turn: after a clash the set has all marks.
     fn turn(
         &self,
         gate: &Admission,
@@ -27,6 +29,9 @@ impl<B: TermBook> Trip<'_, B> {
         }
         let closed = *set;
         bring_on(self.lines, self.index, gate, lined, set)?;
+        if set.same_marks(&closed)? {
+            return Ok(false);
+        }
         *lined = *set;
         let clash = self.book.close_on(set, &closed)?;
         Ok(!clash)
@@ -46,12 +51,23 @@ impl<B: TermBook> Trip<'_, B> {
         Ok(())
     }
 
+    // Whether the set has all marks of the width.
+    pub(crate) fn is_whole(&self, set: &MarkSet) -> Result<bool, Refusal>
+        requires { set.now.width ≡ (B.TermBook.book self.now.book.now).width }
+        ensures { Gives result (λ b. Decides b (marks_of set.now ≡ below (B.TermBook.book self.now.book.now).width)) }
+    {
+        set.same_marks(&MarkSet::full(self.book.width())?)
+    }
+
     // What the set grows to by all rules that the gate admits, facts and fare lines.
     pub(crate) fn grown(&self, start: &MarkSet, gate: &Admission) -> Result<MarkSet, Refusal>
         requires width { start.now.width ≡ (B.TermBook.book self.now.book.now).width }
         requires denied { gate.now.denied.width ≡ (B.TermBook.book self.now.book.now).width }
         ensures { Gives result (Grown (B.TermBook.book self.now.book.now) (LetInBy self.now.lines.now self.now.facts.now gate.now) start.now) }
     {
+        if self.is_whole(start)? {
+            return Ok(*start);
+        }
         let mut admitted = *self.facts;
         admitted.subtract(&gate.denied)?;
         let mut set = *start;

@@ -9,7 +9,6 @@ ghost use Rattle.settling.specs.Growth.{rules_of};
 ghost use Rattle.settling.specs.Kept.{KeptAt, WithinLeast};
 
 use crate::trip::Trip;
-use crate::verdict::clashes;
 use books::book::TermBook;
 use lines::admission::Admission;
 use marks::refusal::Refusal;
@@ -57,10 +56,10 @@ impl<B: TermBook> Trip<'_, B> {
             refuted: *refuted,
         };
         let untested = self.grown(lower, &gate)?;
-        if !clashes(self.book, &untested)? {
+        if !self.clashes_closed(&untested)? {
             return Ok(untested);
         }
-        let denied = self.denied_heads(lower, known)?;
+        let denied = self.denied_under(lower, &untested, known)?;
         *known = denied;
         self.kept_without(lower, refuted, denied)
     }

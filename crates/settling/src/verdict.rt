@@ -2,6 +2,7 @@
 ghost use Rattle.std.specs.Prelude.{◌≡◌, Decides};
 ghost use Rattle.marks.specs.MarkSets.{marks_of};
 ghost use Rattle.marks.specs.Refusals.{Gives};
+ghost use Rattle.readings.specs.Books.{Closed};
 ghost use Rattle.readings.specs.Says.{the_verdict, IsBroken};
 ghost use Rattle.readings.specs.Yields.{Guarded};
 ghost use Rattle.settling.specs.Growth.{rules_of};
@@ -35,6 +36,18 @@ fn broken<B: TermBook>(book: &B, reading: &Reading) -> Result<bool, Refusal>
 }
 
 impl<B: TermBook> Trip<'_, B> {
+    // Whether the book clashes at the closed set: it may only where the set has all marks.
+    pub(crate) fn clashes_closed(&self, set: &MarkSet) -> Result<bool, Refusal>
+        requires width { set.now.width ≡ (B.TermBook.book self.now.book.now).width }
+        requires closed { Closed (B.TermBook.book self.now.book.now) (marks_of set.now) }
+        ensures { Gives result (λ b. b ≡ (B.TermBook.book self.now.book.now).clash (marks_of set.now)) }
+    {
+        if !self.is_whole(set)? {
+            return Ok(false);
+        }
+        clashes(self.book, set)
+    }
+
     // The verdict that the rules give on T and U: broken, else suspect where the two yields of T differ, else clear. The guarded
     // one is U.
     pub(crate) fn judge(&self, reading: &Reading) -> Result<Verdict, Refusal>

@@ -11,5 +11,5 @@ returns-then-not-branch-clause-kept g c =
     let grown = c.in_ok-untested.ensures in
     record {
       width = grown.width;
-      kept = untested_kept fit c.requires.known.denied grown.least (fails (sym c.in_ok-clashes.ensures ∙ c.if-not-branch.true)) c.requires.within;
+      kept = untested_kept fit c.requires.known.denied grown.least (fails (sym c.in_ok-clashes_closed.ensures ∙ c.if-not-branch.true)) c.requires.within;
     }
