@@ -6,9 +6,12 @@ use marks::set::MarkSet;
 use readings::method::Method;
 use std::alloc::{AllocError, Global};
 
-// A mark, a width, a value.
+// A mark, a width, a value. There are many, so nothing as large as an error is moved for one that is right.
 pub(crate) fn number(text: &str) -> anyhow::Result<u16> {
-    text.parse::<u16>().context("no number up to 65,535")
+    let Ok(n) = text.parse::<u16>() else {
+        return Err(anyhow!("no number up to 65,535"));
+    };
+    Ok(n)
 }
 
 // How many there are of something.
@@ -25,11 +28,12 @@ pub(crate) fn method(text: &str) -> anyhow::Result<Method> {
     }
 }
 
-// The bytes that HEX spells, in lower case.
+// The bytes that HEX spells, in lower case. All its pairs are tested before its length is.
 pub(crate) fn bytes(heap: Global, hex: &str) -> anyhow::Result<Vec<u8>> {
     let digits = if hex == "-" { "" } else { hex };
-    if !digits
-        .as_bytes()
+    let (pairs, _) = digits.as_bytes().as_chunks::<2>();
+    if !pairs
+        .as_flattened()
         .iter()
         .all(|b| matches!(*b, b'0'..=b'9' | b'a'..=b'f'))
     {
@@ -80,8 +84,9 @@ fn add_mark(list: &mut MarkList, mark: u16) -> anyhow::Result<()> {
     if let Some(place) = list.marks.get_mut(count as usize) {
         *place = mark;
     }
-    list.count = count
-        .checked_add(1)
-        .context("a list has at most 255 marks")?;
+    let Some(more) = count.checked_add(1) else {
+        return Err(anyhow!("a list has at most 255 marks"));
+    };
+    list.count = more;
     Ok(())
 }

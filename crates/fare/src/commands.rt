@@ -34,8 +34,8 @@ An example: fare settle sample 0 3";
 
 pub(crate) fn perform(rt: &HostRuntime, words: &[&str]) -> Result<(), Failure> {
     match words {
-        [] | ["sample"] => show_sample(rt),
         ["--help", ..] | [_, "--help"] => Ok(rt.println(HELP)?),
+        [] | ["sample", ..] => show_sample(rt),
         ["facts"] | ["numbers"] => Err("bytes in hexadecimal must follow".into()),
         ["facts", strings @ ..] => facts_strings(rt, strings),
         ["numbers", strings @ ..] => number_strings(rt, strings),

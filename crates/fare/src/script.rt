@@ -60,8 +60,12 @@ pub(crate) fn calls_of(heap: Global, script: &str) -> Result<Vec<Call>, Failure>
 
 const CALLS: &str = "the calls are enter 3, strike 3, settle 1, settle 2, ask 3";
 
+// There are many, so nothing as large as a failure is moved for one that is right.
 fn call_of(text: &str) -> Result<Call, Failure> {
-    parsed(text).ok_or_else(|| anyhow!("no such call: {text} ({CALLS})").into())
+    let Some(call) = parsed(text) else {
+        return Err(anyhow!("no such call: {text} ({CALLS})").into());
+    };
+    Ok(call)
 }
 
 fn parsed(text: &str) -> Option<Call> {
